@@ -12,8 +12,7 @@ use Rattle.wesl_link_symbols.specs.declared.symbols.Answer.{Answer}
 use Rattle.wesl_link_symbols.specs.declared.symbols.Answer.TheVariants.{Declared, Next, Missing, Private, Ambiguous}
 use Rattle.wesl_link_symbols.specs.Tables.{Declaration, Table}
 use Rattle.wesl_link_symbols.specs.Names.{Declares, Imports, SameTarget, IsOwn, asked_for, asked_by, AsksFrom, IsUnclearFrom, Shows, Sees, DeclaresTo, IsOpenTo, IsHiddenFrom, IsAskedTo, Answers}
-use Rattle.wesl_link_reach.specs.World.{IsAt, Finds, Hops, Reaches, EndsWith, LeadsTo, ComesTo, HasMet, Walk, IsMissingAt, IsPrivateAt, IsAmbiguousAt, Task, IsKept, Entered, Reached, Followed}
-use Rattle.wesl_link_reach.specs.World.ComesTo.{stays, hops}
+use Rattle.wesl_link_reach.specs.World.{IsAt, Finds, Hops, Reaches, EndsWith, LeadsTo, HasMet, Walk, WalksTo, IsMissingAt, IsPrivateAt, IsAmbiguousAt, Task, IsKept, Entered, Reached, Followed}
 use Rattle.wesl_link_reach.specs.World.Walk.{begin, step}
 use Rattle.wesl_link_reach.specs.World.Entered.{root, asked, imported}
 use Rattle.wesl_link_reach.specs.World.Reached.{led_to, declared}
@@ -325,12 +324,6 @@ module _ {P N Q M : Type 0} (R : P → Q → Type 0) (S : N → M → Type 0) (r
       let (u, at2, same) = at_to a.path c.path t h.path at in
       let (d, there, k) = next_to R S rs ss t u same a c h b next in (d, (u, at2, there), k)
 
-  pub comes_to : (l : LookUp P N) (k : LookUp Q M) (a : LookUp P N) → SameLookUp R S l k → ComesTo w l a → (b : LookUp Q M) × ComesTo v k b × SameLookUp R S a b
-  comes_to l k a h (stays _) = (k, stays k, h)
-  comes_to l k a h (hops _ n _ hop r) =
-      let (m, g, same) = hops_to l n k h hop in
-      let (b, come, same_b) = comes_to n m a same r in (b, hops k m b g come, same_b)
-
   met_from : (met : List (LookUp P N)) (met2 : List (LookUp Q M)) (a : LookUp P N) (b : LookUp Q M) → AreRelated (SameLookUp R S) met met2 → SameLookUp R S a b → HasMet met2 b → HasMet met a
   met_from met met2 a b hs h (c, held, (ep, en)) =
       let (d, held2, same) = related_in (Back (SameLookUp R S)) met2 met c (related_back (SameLookUp R S) (Back (SameLookUp R S)) (λ x y k. k) met met2 hs) held in
@@ -348,6 +341,9 @@ module _ {P N Q M : Type 0} (R : P → Q → Type 0) (S : N → M → Type 0) (r
       let (before2, c, walk, same, all) = walk_to l k before b h r in
       let (d, hop2, same_d) = hops_to b a c same hop in
       (c ∷ before2, d, step before2 c d walk (λ m. new (met_from before before2 b c all same m)) hop2, same_d, (same, all))
+
+  pub comes_to : (l : LookUp P N) (k : LookUp Q M) (a : LookUp P N) → SameLookUp R S l k → WalksTo w l a → (b : LookUp Q M) × WalksTo v k b × SameLookUp R S a b
+  comes_to l k a h (met, walk) = let (met2, b, walk2, same, all) = walk_to l k met a h walk in (b, (met2, walk2), same)
 
   reaches_to : (l : LookUp P N) (k : LookUp Q M) (a : LookUp P N) → SameLookUp R S l k → Reaches w l a → (b : LookUp Q M) × Reaches v k b × SameLookUp R S a b
   reaches_to l k a h (met, walk, new) =

@@ -5,8 +5,7 @@ use Rattle.wesl_link_symbols.specs.declared.symbols.Symbol.{Symbol}
 use Rattle.wesl_link_symbols.specs.declared.symbols.Answer.{Answer}
 use Rattle.wesl_link_symbols.specs.declared.symbols.Answer.TheVariants.{Missing, Private as Hidden, Ambiguous}
 use Rattle.wesl_link_symbols.specs.Tables.{Table}
-use Rattle.wesl_link_reach.specs.World.{Task, IsAt, IsWorld, Hops, Reaches, EndsWith, LeadsTo, ComesTo, Walk, IsMissingAt, IsPrivateAt, IsAmbiguousAt, Entered, Reached, Followed}
-use Rattle.wesl_link_reach.specs.World.ComesTo.{stays, hops}
+use Rattle.wesl_link_reach.specs.World.{Task, IsAt, IsWorld, Hops, Walk, WalksTo, Reaches, EndsWith, LeadsTo, IsMissingAt, IsPrivateAt, IsAmbiguousAt, Entered, Reached, Followed}
 use Rattle.wesl_link_reach.specs.World.Walk.{begin, step}
 use Rattle.wesl_link_reach.specs.World.Entered.{root, asked, imported}
 use Rattle.wesl_link_reach.specs.World.Reached.{led_to, declared}
@@ -17,14 +16,6 @@ use Rattle.wesl_link_reach.specs.Laws.{AreExclusive}
 use Rattle.wesl_link_reach.proofs.Lists.{all_into}
 
 module _ {P N : Type 0} where
-  pub comes_on : {w : List (Table P N)} → (l a b : (LookUp P N)) → ComesTo w l a → Hops w a b → ComesTo w l b
-  comes_on l a b (stays _) h = hops l b b h (stays b)
-  comes_on l a b (hops _ n _ g r) h = hops l n b g (comes_on n a b r h)
-
-  pub walk_comes : {w : List (Table P N)} → (l : (LookUp P N)) (met : List (LookUp P N)) (a : (LookUp P N)) → Walk w l met a → ComesTo w l a
-  walk_comes {w} l met a (begin _ e) = subst (λ (x : (LookUp P N)). ComesTo w l x) (sym e) (stays l)
-  walk_comes l met a (step before b _ r new h) = comes_on l b a (walk_comes l before b r) h
-
   -- every table that v has at a path that w enters is in w
   pub record Shares (w v : List (Table P N)) (task : (Task P N)) : Type 0 where
     pub held : (p : P) (t : (Table P N)) → Entered w task p → IsAt v p t → IsAt w p t
@@ -32,21 +23,20 @@ module _ {P N : Type 0} where
   hop_into : {w v : List (Table P N)} {task : (Task P N)} → Shares w v task → (a b : (LookUp P N)) → Entered w task a.path → Hops v a b → Hops w a b
   hop_into shares a b h (t, at, answers) = (t, shares.held a.path t h at, answers)
 
-  enters : {w : List (Table P N)} {task : (Task P N)} → (l a : (LookUp P N)) → Followed w task l → ComesTo w l a → Entered w task a.path
+  enters : {w : List (Table P N)} {task : (Task P N)} → (l a : (LookUp P N)) → Followed w task l → WalksTo w l a → Entered w task a.path
   enters l a f c = asked l a a.path f c refl
-
-  comes_into : {w v : List (Table P N)} {task : (Task P N)} → Shares w v task → (l b a : (LookUp P N)) → Followed w task l → ComesTo w l b → ComesTo v b a → ComesTo w l a
-  comes_into shares l b a f c (stays _) = c
-  comes_into shares l b a f c (hops _ n _ h r) = comes_into shares l n a f (comes_on l b n c (hop_into shares b n (enters l b f c) h)) r
 
   walk_into : {w v : List (Table P N)} {task : (Task P N)} → Shares w v task → (l : (LookUp P N)) (met : List (LookUp P N)) (a : (LookUp P N)) → Followed w task l → Walk v l met a → Walk w l met a
   walk_into shares l met a f (begin _ e) = begin a e
   walk_into shares l met a f (step before b _ r new h) =
-      let r2 = walk_into shares l before b f r in step before b a r2 new (hop_into shares b a (enters l b f (walk_comes l before b r2)) h)
+      let r2 = walk_into shares l before b f r in step before b a r2 new (hop_into shares b a (enters l b f (before, r2)) h)
+
+  walks_into : {w v : List (Table P N)} {task : (Task P N)} → Shares w v task → (l a : (LookUp P N)) → Followed w task l → WalksTo v l a → WalksTo w l a
+  walks_into shares l a f (met, walk) = (met, walk_into shares l met a f walk)
 
   -- what a look-up reaches is entered
   reach_enters : {w : List (Table P N)} {task : (Task P N)} → (l a : (LookUp P N)) → Followed w task l → Reaches w l a → Entered w task a.path
-  reach_enters l a f (met, walk, new) = enters l a f (walk_comes l met a walk)
+  reach_enters l a f (met, walk, new) = enters l a f (met, walk)
 
   reaches_into : {w v : List (Table P N)} {task : (Task P N)} → Shares w v task → (l a : (LookUp P N)) → Followed w task l → Reaches v l a → Reaches w l a
   reaches_into shares l a f (met, walk, new) = (met, walk_into shares l met a f walk, new)
@@ -60,13 +50,13 @@ module _ {P N : Type 0} where
       let r = reaches_into shares l a f reaches in (r, (t, shares.held a.path t (reach_enters l a f r) at, answers))
 
   reached_enters : {w : List (Table P N)} {task : (Task P N)} → {s : (Symbol P N)} → Reached w task s → Entered w task s.path
-  reached_enters {s = s} (led_to l _ f (a, (met, walk, new), (t, at, d, e))) = asked l a s.path f (walk_comes l met a walk) (sym (ap (λ (x : (Symbol P N)). x.path) e))
+  reached_enters {s = s} (led_to l _ f (a, (met, walk, new), (t, at, d, e))) = asked l a s.path f (met, walk) (sym (ap (λ (x : (Symbol P N)). x.path) e))
   reached_enters {s = s} (declared _ t eager h at d) = h
 
   mutual
     entered_into : {w v : List (Table P N)} {task : (Task P N)} → Shares w v task → (p : P) → Entered v task p → Entered w task p
     entered_into shares p (root _ e) = root p e
-    entered_into shares p (asked l a _ f c e) = let g = followed_into shares l f in asked l a p g (comes_into shares l l a g (stays l) c) e
+    entered_into shares p (asked l a _ f c e) = let g = followed_into shares l f in asked l a p g (walks_into shares l a g c) e
     entered_into shares p (imported q _ t i eager h at held e) = let g = entered_into shares q h in imported q p t i eager g (shares.held q t g at) held e
 
     reached_into : {w v : List (Table P N)} {task : (Task P N)} → Shares w v task → (s : (Symbol P N)) → Reached v task s → Reached w task s

@@ -24,7 +24,6 @@ use Rattle.wesl_link_reach.specs.Loading.{GoesOn, IsSoundIn, CanEnter, IsAnswere
 use Rattle.wesl_link_reach.specs.Trodden.{StepAt, NoneBefore, AreTrodden}
 use Rattle.wesl_link_symbols.proofs.Lists.{contains_nil}
 use Rattle.wesl_link_reach.proofs.Growth.{walk_more, reaches_more, followed_more, at_more}
-use Rattle.wesl_link_reach.proofs.Exclusive.{walk_comes}
 use Rattle.wesl_link_reach.proofs.Growing.{within_on, within_cons, goes_on_itself, goes_on_length, goes_on_trans}
 use Rattle.wesl_link_reach.proofs.Steps.{sound_answer, sound_steps}
 use Rattle.wesl_link_reach.proofs.Treading.{same_symbol}
@@ -65,7 +64,7 @@ module _ {P N : Type 0} where
   walked_more task l more (start, f, reaches) = (start, followed_more more start f, reaches_more more start l reaches)
 
   pub walked_enters : {w : List (Table P N)} {task : Task P N} (l : LookUp P N) → IsWalked w task l → Entered w task l.path
-  walked_enters l (start, f, (met, walk, new)) = asked start l l.path f (walk_comes start met l walk) refl
+  walked_enters l (start, f, (met, walk, new)) = asked start l l.path f (met, walk) refl
 
   pub walked_reaches : {w : List (Table P N)} {task : Task P N} (l : LookUp P N) (t : Table P N) → IsWalked w task l → IsAt w l.path t → Answers t l Declared → Reached w task (symbol_of l)
   walked_reaches l t (start, f, reaches) at d = led_to start (symbol_of l) f (l, reaches, (t, at, d, refl))

@@ -3,8 +3,7 @@ use Rattle.std.proofs.Common.{List}
 use Rattle.wesl_link_symbols.specs.declared.symbols.LookUp.{LookUp}
 use Rattle.wesl_link_symbols.specs.declared.symbols.Symbol.{Symbol}
 use Rattle.wesl_link_symbols.specs.Tables.{Table}
-use Rattle.wesl_link_reach.specs.World.{Task, IsAt, Finds, Hops, Reaches, LeadsTo, ComesTo, Walk, Entered, Reached, Followed}
-use Rattle.wesl_link_reach.specs.World.ComesTo.{stays, hops}
+use Rattle.wesl_link_reach.specs.World.{Task, IsAt, Finds, Hops, Walk, WalksTo, Reaches, LeadsTo, Entered, Reached, Followed}
 use Rattle.wesl_link_reach.specs.World.Walk.{begin, step}
 use Rattle.wesl_link_reach.specs.World.Entered.{root, asked, imported}
 use Rattle.wesl_link_reach.specs.World.Reached.{led_to, declared}
@@ -21,13 +20,12 @@ module _ {P N : Type 0} where
   pub hops_more : {w v : List (Table P N)} → Within w v → (a b : (LookUp P N)) → Hops w a b → Hops v a b
   hops_more more a b (t, at, answers) = (t, at_more more a.path t at, answers)
 
-  pub comes_more : {w v : List (Table P N)} → Within w v → (l a : (LookUp P N)) → ComesTo w l a → ComesTo v l a
-  comes_more more l a (stays _) = stays l
-  comes_more more l a (hops _ n _ h r) = hops l n a (hops_more more l n h) (comes_more more n a r)
-
   pub walk_more : {w v : List (Table P N)} → Within w v → (l : (LookUp P N)) (met : List (LookUp P N)) (a : (LookUp P N)) → Walk w l met a → Walk v l met a
   walk_more more l met a (begin _ e) = begin a e
   walk_more more l met a (step before b _ r new h) = step before b a (walk_more more l before b r) new (hops_more more b a h)
+
+  pub walks_more : {w v : List (Table P N)} → Within w v → (l a : (LookUp P N)) → WalksTo w l a → WalksTo v l a
+  walks_more more l a (met, walk) = (met, walk_more more l met a walk)
 
   pub reaches_more : {w v : List (Table P N)} → Within w v → (l a : (LookUp P N)) → Reaches w l a → Reaches v l a
   reaches_more more l a (met, walk, new) = (met, walk_more more l met a walk, new)
@@ -38,7 +36,7 @@ module _ {P N : Type 0} where
   mutual
     pub entered_more : {w v : List (Table P N)} {task : (Task P N)} → Within w v → (p : P) → Entered w task p → Entered v task p
     entered_more more p (root _ e) = root p e
-    entered_more more p (asked l a _ f c e) = asked l a p (followed_more more l f) (comes_more more l a c) e
+    entered_more more p (asked l a _ f c e) = asked l a p (followed_more more l f) (walks_more more l a c) e
     entered_more more p (imported q _ t i eager h at held e) = imported q p t i eager (entered_more more q h) (at_more more q t at) held e
 
     pub reached_more : {w v : List (Table P N)} {task : (Task P N)} → Within w v → (s : (Symbol P N)) → Reached w task s → Reached v task s

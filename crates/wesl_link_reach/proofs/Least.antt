@@ -22,7 +22,7 @@ module _ {P N : Type 0} where
   mutual
     pub entered_in : {w : List (Table P N)} {task : (Task P N)} (e : P → Type 0) (r : (Symbol P N) → Type 0) → IsClosed w task e r → (p : P) → Entered w task p → e p
     entered_in e r c p (root _ is) = c.root p is
-    entered_in e r c p (asked l a _ f comes is) = c.enters l a p (followed_in e r c l f) comes is
+    entered_in e r c p (asked l a _ f walks is) = c.enters l a p (followed_in e r c l f) walks is
     entered_in e r c p (imported q _ t i eager h at held is) = c.imports eager q p t i (entered_in e r c q h) at held is
 
     pub reached_in : {w : List (Table P N)} {task : (Task P N)} (e : P → Type 0) (r : (Symbol P N) → Type 0) → IsClosed w task e r → (s : (Symbol P N)) → Reached w task s → r s
@@ -43,7 +43,7 @@ module _ {P N : Type 0} where
   least = record {
     closed = λ w task. record {
       root = λ p e. root p e;
-      enters = λ l a p h comes e. asked l a p (asked_followed w task l h) comes e;
+      enters = λ l a p h walks e. asked l a p (asked_followed w task l h) walks e;
       reaches = λ l s h leads. led_to l s (asked_followed w task l h) leads;
       imports = λ eager q p t i h at held e. imported q p t i eager h at held e;
       declares = λ eager s t h at d. declared s t eager h at d;

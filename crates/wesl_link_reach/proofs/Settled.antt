@@ -1,26 +1,25 @@
 -- In a settled list no fault stands.
-use Rattle.std.proofs.Common.{◌≡◌, inl, inr, ℕ, ◌≤◌, true≢false, List, [], map, length, Contains, arith, subst, sym, refl, ◌∙◌}
+use Rattle.std.proofs.Common.{◌≡◌, inl, inr, ℕ, ◌≤◌, true≢false, List, map, length, Contains, arith, subst, sym, ◌∙◌}
 use Rattle.std.proofs.lemmas.List.Elements.{All-contains}
 use Rattle.wesl_link_symbols.specs.declared.symbols.LookUp.{LookUp}
 use Rattle.wesl_link_symbols.specs.declared.symbols.Symbol.{Symbol}
 use Rattle.wesl_link_symbols.specs.Tables.{Table}
 use Rattle.wesl_link_reach.specs.World.{Task, IsAt, Entered, Reached, Followed}
-use Rattle.wesl_link_reach.specs.World.Walk.{begin}
 use Rattle.wesl_link_reach.specs.World.Entered.{root, asked, imported}
 use Rattle.wesl_link_reach.specs.World.Reached.{led_to, declared}
 use Rattle.wesl_link_reach.specs.World.Followed.{kept, by_assert, by_symbol}
 use Rattle.wesl_link_reach.specs.Faults.{Fault, duplicate, refused, missing, private, too_many, ambiguous, too_many_flags, Stands}
 use Rattle.wesl_link_reach.specs.Laws.{Settles, IsSettled, WorklistIsEnough}
 use Rattle.wesl_link_reach.proofs.Lists.{distinct_length, length_map, map_contains}
-use Rattle.wesl_link_reach.proofs.Walks.{comes_at, leads_to_one, not_missing, not_private, not_ambiguous}
+use Rattle.wesl_link_reach.proofs.Walks.{walks_at, leads_to_one, not_missing, not_private, not_ambiguous}
 
 module _ {P N : Type 0} where
   mutual
     pub entered_at : {w : List (Table P N)} {task : (Task P N)} {ss : List (Symbol P N)} → IsSettled w task ss → (p : P) → Entered w task p → (t : (Table P N)) × IsAt w p t
     entered_at {w} c p (root _ e) = subst (λ (q : P). (t : (Table P N)) × IsAt w q t) (sym e) c.root_at
-    entered_at {w} c p (asked l a _ f comes e) =
+    entered_at {w} c p (asked l a _ f walks e) =
         let (s, leads, held) = settled c l f in
-        subst (λ (q : P). (t : (Table P N)) × IsAt w q t) e (comes_at w c.clear l s [] l a leads (begin l refl) comes)
+        subst (λ (q : P). (t : (Table P N)) × IsAt w q t) e (walks_at w c.clear l s a leads walks)
     entered_at {w} c p (imported q _ t i eager h at held e) = subst (λ (r : P). (t : (Table P N)) × IsAt w r t) e (c.imports eager t i at.0 held)
 
     pub reached_held : {w : List (Table P N)} {task : (Task P N)} {ss : List (Symbol P N)} → IsSettled w task ss → (s : (Symbol P N)) → Reached w task s → Contains ss s

@@ -6,8 +6,7 @@ use Rattle.wesl_link_symbols.specs.declared.symbols.Symbol.{Symbol}
 use Rattle.wesl_link_symbols.specs.declared.symbols.Answer.{Answer}
 use Rattle.wesl_link_symbols.specs.Tables.{Table}
 use Rattle.wesl_link_symbols.specs.Names.{Answers}
-use Rattle.wesl_link_reach.specs.World.{IsAt, Hops, Finds, HasMet, EndsWith, ComesTo, Walk, LeadsTo, IsMissingAt, IsPrivateAt, IsAmbiguousAt}
-use Rattle.wesl_link_reach.specs.World.ComesTo.{stays, hops}
+use Rattle.wesl_link_reach.specs.World.{IsAt, Hops, Finds, HasMet, Walk, WalksTo, EndsWith, LeadsTo, IsMissingAt, IsPrivateAt, IsAmbiguousAt}
 use Rattle.wesl_link_reach.specs.World.Walk.{begin, step}
 use Rattle.wesl_link_reach.specs.Laws.{IsClear, LeadsToOne}
 use Rattle.wesl_link_symbols.proofs.Once.{once}
@@ -109,19 +108,11 @@ module _ {P N : Type 0} (w : List (Table P N)) (clear : IsClear w) where
   pub not_ambiguous : (l : LookUp P N) (s : Symbol P N) (n : N) → LeadsTo w l s → IsAmbiguousAt w l n → ⊥
   not_ambiguous l s n leads (b, f, ends) = stuck l s b Ambiguous leads ends (λ c g. absurd cc) (λ g. absurd cc)
 
-  -- where what it comes to has a module
-  table_of : (l : LookUp P N) (s : Symbol P N) (n : List (LookUp P N)) (b : LookUp P N) → LeadsTo w l s → Walk w l n b → (t : Table P N) × IsAt w b.path t
-  table_of l s n b leads r = elim (ends_at l s n b leads r) [
+  -- a look-up that leads to a symbol walks to modules alone
+  pub walks_at : (l : LookUp P N) (s : Symbol P N) (b : LookUp P N) → LeadsTo w l s → WalksTo w l b → (t : Table P N) × IsAt w b.path t
+  walks_at l s b leads (n, r) = elim (ends_at l s n b leads r) [
     | inl goes ↦ (let (new, (c, (t, at, k))) = goes in (t, at))
     | inr found ↦ (let ((t, at, k, is), new) = found in (t, at))
-  ]
-
-  -- a look-up that leads to a symbol comes to modules alone
-  pub comes_at : (l : LookUp P N) (s : Symbol P N) (n : List (LookUp P N)) (b c : LookUp P N) → LeadsTo w l s → Walk w l n b → ComesTo w b c → (t : Table P N) × IsAt w c.path t
-  comes_at l s n b c leads r (stays _) = table_of l s n b leads r
-  comes_at l s n b c leads r (hops _ x _ h rest) = elim (ends_at l s n b leads r) [
-    | inl goes ↦ comes_at l s (b ∷ n) x c leads (step n b x r goes.0 h) rest
-    | inr found ↦ absurd (found_stays b x s found.0 h)
   ]
 
 pub leads_to_one : {P N : Type 0} → LeadsToOne P N

@@ -5,7 +5,7 @@ use Rattle.wesl_link_symbols.specs.declared.symbols.LookUp.{LookUp}
 use Rattle.wesl_link_symbols.specs.declared.symbols.Symbol.{Symbol}
 use Rattle.wesl_link_symbols.specs.Tables.{Table}
 use Rattle.wesl_link_symbols.specs.Names.{Declares, AsksFrom, IsUnclearFrom}
-use Rattle.wesl_link_reach.specs.World.{Task, IsAt, IsKept, LeadsTo, ComesTo, Entered, Reached, Followed}
+use Rattle.wesl_link_reach.specs.World.{Task, IsAt, IsKept, WalksTo, LeadsTo, Entered, Reached, Followed}
 use Rattle.wesl_link_reach.specs.Faults.{IsAdmitted, Fault, Stands, Explained}
 use Rattle.wesl_link_reach.specs.Linking.{Linking, IsLinked}
 
@@ -38,7 +38,7 @@ IsAskedBy {P} {N} w task entered reached l =
 -- sets that hold all the consequences of what is in them
 pub record IsClosed {P N : Type 0} (w : List (Table P N)) (task : Task P N) (entered : P → Type 0) (reached : Symbol P N → Type 0) : Type 0 where
   pub root : (p : P) → p ≡ task.root → entered p
-  pub enters : (l a : LookUp P N) (p : P) → IsAskedBy w task entered reached l → ComesTo w l a → a.path ≡ p → entered p
+  pub enters : (l a : LookUp P N) (p : P) → IsAskedBy w task entered reached l → WalksTo w l a → a.path ≡ p → entered p
   pub reaches : (l : LookUp P N) (s : Symbol P N) → IsAskedBy w task entered reached l → LeadsTo w l s → reached s
   pub imports : task.is_eager ≡ true → (q p : P) (t : Table P N) (i : Import P N) → entered q → IsAt w q t → Contains t.imports i → i.path ≡ p → entered p
   pub declares : task.is_eager ≡ true → (s : Symbol P N) (t : Table P N) → entered s.path → IsAt w s.path t → Declares t s.name → reached s

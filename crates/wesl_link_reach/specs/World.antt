@@ -29,12 +29,6 @@ module _ {P N : Type 0} where
   abbrev pub Hops : List (Table P N) → LookUp P N → LookUp P N → Type 0
   Hops w a b = (t : Table P N) × IsAt w a.path t × Answers t a (Next b)
 
--- no hop or more
-pub data ComesTo {P N : Type 0} (w : List (Table P N)) : LookUp P N → LookUp P N → Type 0 where
-  stays : (l : LookUp P N) → ComesTo w l l
-  hops : (l next a : LookUp P N) → Hops w l next → ComesTo w next a → ComesTo w l a
-
-module _ {P N : Type 0} where
   abbrev pub SameQuestion : LookUp P N → LookUp P N → Type 0
   SameQuestion a b = (a.path ≡ b.path) × (a.name ≡ b.name)
 
@@ -47,6 +41,10 @@ pub data Walk {P N : Type 0} (w : List (Table P N)) (start : LookUp P N) : List 
   step : (met : List (LookUp P N)) (a b : LookUp P N) → Walk w start met a → (HasMet met a → ⊥) → Hops w a b → Walk w start (a ∷ met) b
 
 module _ {P N : Type 0} where
+  -- a walk comes there, be it to that question for the first time or for the second, where the walk ends
+  abbrev pub WalksTo : List (Table P N) → LookUp P N → LookUp P N → Type 0
+  WalksTo w l a = (met : List (LookUp P N)) × Walk w l met a
+
   -- a walk comes there for the first time
   abbrev pub Reaches : List (Table P N) → LookUp P N → LookUp P N → Type 0
   Reaches w l a = (met : List (LookUp P N)) × Walk w l met a × (HasMet met a → ⊥)
@@ -84,12 +82,13 @@ module _ {P N : Type 0} where
   abbrev pub IsKept : Task P N → LookUp P N → Type 0
   IsKept task l = (n : N) × Contains task.kept n × (l ≡ record { asker = None; path = task.root; name = n; from = Always })
 
--- The least sets of entered paths, reached symbols and followed look-ups. The eager link, besides, reaches all
--- that an entered module declares, and enters the path of each of its imports.
+-- The least sets of entered paths, reached symbols and followed look-ups. A followed look-up enters the path of each
+-- module that a walk of it comes to, and reaches the symbol that it leads to. The eager link, besides, reaches all that
+-- an entered module declares, and enters the path of each of its imports.
 mutual
   pub data Entered {P N : Type 0} (w : List (Table P N)) (task : Task P N) : P → Type 0 where
     root : (p : P) → p ≡ task.root → Entered w task p
-    asked : (l a : LookUp P N) (p : P) → Followed w task l → ComesTo w l a → a.path ≡ p → Entered w task p
+    asked : (l a : LookUp P N) (p : P) → Followed w task l → WalksTo w l a → a.path ≡ p → Entered w task p
     imported : (q p : P) (t : Table P N) (i : Import P N) → task.is_eager ≡ true → Entered w task q → IsAt w q t → Contains t.imports i → i.path ≡ p → Entered w task p
 
   pub data Reached {P N : Type 0} (w : List (Table P N)) (task : Task P N) : Symbol P N → Type 0 where

@@ -8,10 +8,9 @@ use Rattle.wesl_link_symbols.specs.declared.symbols.LookUp.{LookUp}
 use Rattle.wesl_link_symbols.specs.declared.symbols.Symbol.{Symbol}
 use Rattle.wesl_link_symbols.specs.Tables.{Table}
 use Rattle.wesl_link_symbols.proofs.Lists.{one_at}
-use Rattle.wesl_link_reach.specs.World.{Task, ComesTo}
-use Rattle.wesl_link_reach.specs.World.ComesTo.{stays, hops}
+use Rattle.wesl_link_reach.specs.World.{Task, Walk}
+use Rattle.wesl_link_reach.specs.World.Walk.{begin, step}
 use Rattle.wesl_link_reach.specs.Laws.{IsAskedBy, IsClosed}
-use Rattle.wesl_link_reach.proofs.Exclusive.{walk_comes}
 use Rattle.wesl_link_reach.proofs.Least.{entered_in, reached_in}
 use Rattle.wesl_link_reasons.specs.declared.found.Found.{Found}
 use Rattle.wesl_link_reasons.specs.declared.map.Map.{Map}
@@ -42,18 +41,18 @@ module _ (m : Map) (s : Search) (sound : IsSound m s.findings) (firsts : HasFirs
   no_next : (n : LookUp PathId NameId) → None ≡ Some n → ⊥
   no_next n e = cc
 
-  comes_through : (l a : LookUp PathId NameId) → Contains s.trail l → ComesTo (world_in m) l a → Contains s.trail a
-  comes_through l a c (stays _) = c
-  comes_through l a c (hops _ n _ h rest) = elim ((through l c).hops n h) [
-    | inl d ↦ comes_through n a d rest
-    | inr e ↦ absurd (no_next n e)
+  walk_through : (l : LookUp PathId NameId) → Contains s.trail l → (met : List (LookUp PathId NameId)) (a : LookUp PathId NameId) → Walk (world_in m) l met a → Contains s.trail a
+  walk_through l c met a (begin _ e) = subst (λ (x : LookUp PathId NameId). Contains s.trail x) (sym e) c
+  walk_through l c met a (step rest b _ r new h) = elim ((through b (walk_through l c rest b r)).hops a h) [
+    | inl d ↦ d
+    | inr e ↦ absurd (no_next a e)
   ]
 
   closed : IsClosed (world_in m) (task_in m) IsModule IsItem
   closed = record {
     root = λ p e. firsts (Module p) e;
-    enters = λ l a p by comes e. subst (λ (q : PathId). IsModule q) e (through a (comes_through l a (asked_through l by) comes)).asked;
-    reaches = λ l x by (a, (met, walk, new), finds). (through a (comes_through l a (asked_through l by) (walk_comes l met a walk))).finds x finds;
+    enters = λ l a p by (met, walk) e. subst (λ (q : PathId). IsModule q) e (through a (walk_through l (asked_through l by) met a walk)).asked;
+    reaches = λ l x by (a, (met, walk, new), finds). (through a (walk_through l (asked_through l by) met a walk)).finds x finds;
     imports = λ eager q p t i h at held e. (done_of (Module q) h).taken eager q refl (Module p) (t, at, (i, held, e));
     declares = λ eager x t h at d. (done_of (Module x.path) h).taken eager x.path refl (Item x) (refl, (t, at, d));
   }

@@ -29,7 +29,7 @@ module _ {P N : Type 0} (w : List (Table P N)) (task : Task P N) where
 
   pub holds_on : (a b : Node P N) → IsHeld w task a → AsksFor w task a b → IsHeld w task b
   holds_on a (KeptName n) h (inl (l, looks, brings)) = absurd brings
-  holds_on a (Module p) h (inl (l, looks, (c, comes, e))) = asked l c p (followed a l h looks) comes e
+  holds_on a (Module p) h (inl (l, looks, (c, walks, e))) = asked l c p (followed a l h looks) walks e
   holds_on a (Item s) h (inl (l, looks, leads)) = led_to l s (followed a l h looks) leads
   holds_on a b h (inr (eager, (p, is, takes))) = takes_on p b eager (subst (λ (x : Node P N). IsHeld w task x) is h) takes
 
@@ -63,7 +63,7 @@ module _ {P N : Type 0} (w : List (Table P N)) (task : Task P N) where
   mutual
     entered_reason : (p : P) → Entered w task p → HasReason w task (Module p)
     entered_reason p (root _ e) = reason_first (Module p) e
-    entered_reason p (asked l c _ f comes e) = let (a, r, looks) = followed_reason l f in reason_on a (Module p) r (inl (l, looks, (c, comes, e)))
+    entered_reason p (asked l c _ f walks e) = let (a, r, looks) = followed_reason l f in reason_on a (Module p) r (inl (l, looks, (c, walks, e)))
     entered_reason p (imported q _ t i eager h at held e) = reason_on (Module q) (Module p) (entered_reason q h) (inr (eager, (q, refl, (t, at, (i, held, e)))))
 
     reached_reason : (s : Symbol P N) → Reached w task s → HasReason w task (Item s)

@@ -12,12 +12,10 @@ use Rattle.wesl_link_symbols.specs.Tables.{Table}
 use Rattle.wesl_link_symbols.specs.Names.{Answers}
 use Rattle.wesl_link_symbols.proofs.Lists.{contains_nil}
 use Rattle.wesl_link_symbols.proofs.Once.{once}
-use Rattle.wesl_link_reach.specs.World.{Task, IsAt, Finds, Hops, ComesTo, Walk, Reaches, LeadsTo, Followed}
-use Rattle.wesl_link_reach.specs.World.ComesTo.{stays, hops}
+use Rattle.wesl_link_reach.specs.World.{Task, IsAt, Finds, Hops, HasMet, Walk, WalksTo, LeadsTo, Followed}
 use Rattle.wesl_link_reach.specs.World.Walk.{begin, step}
 use Rattle.wesl_link_reach.specs.Laws.{IsClear}
 use Rattle.wesl_link_reach.specs.Loading.{symbol_of}
-use Rattle.wesl_link_reach.proofs.Exclusive.{comes_on}
 use Rattle.wesl_link_reach.proofs.Following.{puts_has}
 use Rattle.wesl_link_reach.proofs.Walks.{hops_one, found_stays}
 use Rattle.wesl_link_reasons.specs.declared.found.Found.{Found}
@@ -53,30 +51,30 @@ module _ (w : List (Table PathId NameId)) (task : Task PathId NameId) where
   -- ---- the way of a look-up
 
   pub way_start : (fs : List Found) (k : ℕ) (l : Question) → ((f : Found) × (slice_get fs k ≡ Some f) × LooksUp w task f.node l) → IsOnWay w task fs k l
-  way_start fs k l (f, at, looks) = (f, at, (l, looks, stays l))
+  way_start fs k l (f, at, looks) = (f, at, (l, looks, ([], begin l refl)))
 
   pub way_on : {a b : List Found} → StaysFound a b → (k : ℕ) (l : Question) → IsOnWay w task a k l → IsOnWay w task b k l
   way_on same k l (f, at, way) = (f, same.at k f at, way)
 
-  pub way_next : (fs : List Found) (k : ℕ) (l n : Question) → Hops w l n → IsOnWay w task fs k l → IsOnWay w task fs k n
-  way_next fs k l n h (f, at, (start, looks, comes)) = (f, at, (start, looks, comes_on start l n comes h))
-
   pub way_module : (fs : List Found) (k : ℕ) (l : Question) → IsOnWay w task fs k l → IsGiven w task fs (Module l.path) (Some k)
-  way_module fs k l (f, at, (start, looks, comes)) = (f, at, inl (start, looks, (l, comes, refl)))
+  way_module fs k l (f, at, (start, looks, walks)) = (f, at, inl (start, looks, (l, walks, refl)))
 
   module _ (unbroken : IsUnbroken w task) where
-    walk_on : (start : Question) → Followed w task start → (met : List Question) (a l : Question) → Walk w start met a → ComesTo w a l → Reaches w start l
-    walk_on start f met a l r (stays _) = (met, r, λ m. unbroken.no_missing start a.path a.name f (a, refl, refl, inr (met, r, m)))
-    walk_on start f met a l r (hops _ n _ h rest) =
-        walk_on start f (a ∷ met) n l (step met a n r (λ m. unbroken.no_missing start a.path a.name f (a, refl, refl, inr (met, r, m))) h) rest
+    -- no walk of a look-up that is followed comes to a question for the second time
+    first_time : (start : Question) → Followed w task start → (met : List Question) (a : Question) → Walk w start met a → HasMet met a → ⊥
+    first_time start f met a r again = unbroken.no_missing start a.path a.name f (a, refl, refl, inr (met, r, again))
 
-    leads_by : (start l : Question) (s : Symbol PathId NameId) → Followed w task start → ComesTo w start l → Finds w l s → LeadsTo w start s
-    leads_by start l s f comes finds = (l, walk_on start f [] start l (begin start refl) comes, finds)
+    leads_by : (start l : Question) (s : Symbol PathId NameId) → Followed w task start → WalksTo w start l → Finds w l s → LeadsTo w start s
+    leads_by start l s f (met, r) finds = (l, (met, r, first_time start f met l r), finds)
+
+    pub way_next : (fs : List Found) (k : ℕ) (l n : Question) → ((x : Node PathId NameId) → IsFound fs x → IsHeld w task x) → Hops w l n → IsOnWay w task fs k l → IsOnWay w task fs k n
+    way_next fs k l n held h (f, at, (start, looks, (met, r))) =
+        (f, at, (start, looks, (l ∷ met, step met l n r (first_time start (followed w task f.node start (held f.node (k, (f, at, refl))) looks) met l r) h)))
 
     pub way_item : (fs : List Found) (k : ℕ) (l : Question) → ((x : Node PathId NameId) → IsFound fs x → IsHeld w task x) → IsOnWay w task fs k l → Finds w l (symbol_of l)
         → IsGiven w task fs (Item (symbol_of l)) (Some k)
-    way_item fs k l held (f, at, (start, looks, comes)) finds =
-        (f, at, inl (start, looks, leads_by start l (symbol_of l) (followed w task f.node start (held f.node (k, (f, at, refl))) looks) comes finds))
+    way_item fs k l held (f, at, (start, looks, walks)) finds =
+        (f, at, inl (start, looks, leads_by start l (symbol_of l) (followed w task f.node start (held f.node (k, (f, at, refl))) looks) walks finds))
 
     -- ---- what an answer tells
 

@@ -5,7 +5,7 @@ use Rattle.wesl_link_symbols.specs.declared.symbols.Import.{Import}
 use Rattle.wesl_link_symbols.specs.declared.symbols.LookUp.{LookUp}
 use Rattle.wesl_link_symbols.specs.Tables.{Table}
 use Rattle.wesl_link_symbols.specs.Names.{Declares, AsksFrom}
-use Rattle.wesl_link_reach.specs.World.{Task, IsAt, LeadsTo, ComesTo, Entered, Reached, Followed, IsMissingAt}
+use Rattle.wesl_link_reach.specs.World.{Task, IsAt, WalksTo, LeadsTo, Entered, Reached, Followed, IsMissingAt}
 use Rattle.wesl_link_reasons.specs.declared.node.Node.{Node}
 use Rattle.wesl_link_reasons.specs.declared.node.Node.TheVariants.{KeptName, Module, Item}
 
@@ -17,10 +17,10 @@ module _ {P N : Type 0} (w : List (Table P N)) (task : Task P N) where
   LooksUp (Module p) l = (t : Table P N) × IsAt w p t × AsksFrom t None l
   LooksUp (Item s) l = (t : Table P N) × IsAt w s.path t × AsksFrom t (Some s.name) l
 
-  -- a look-up brings the symbol that it leads to, and each module that it comes to
+  -- a look-up brings the symbol that it leads to, and each module that a walk of it comes to
   abbrev pub Brings : LookUp P N → Node P N → Type 0
   Brings l (KeptName n) = ⊥
-  Brings l (Module p) = (a : LookUp P N) × ComesTo w l a × (a.path ≡ p)
+  Brings l (Module p) = (a : LookUp P N) × WalksTo w l a × (a.path ≡ p)
   Brings l (Item s) = LeadsTo w l s
 
   -- an eager link takes with a module each module that it imports from, and all that it declares

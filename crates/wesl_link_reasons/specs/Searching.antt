@@ -8,7 +8,7 @@ use Rattle.wesl_link_symbols.specs.declared.symbols.LookUp.{LookUp}
 use Rattle.wesl_link_symbols.specs.declared.symbols.Symbol.{Symbol}
 use Rattle.wesl_link_symbols.specs.Tables.{Table}
 use Rattle.wesl_link_symbols.specs.Names.{Answers, AsksFrom}
-use Rattle.wesl_link_reach.specs.World.{Task, IsAt, Finds, Hops, ComesTo}
+use Rattle.wesl_link_reach.specs.World.{Task, IsAt, Finds, Hops, WalksTo}
 use Rattle.wesl_link_reach.specs.Loading.{ArePlaced}
 use Rattle.wesl_link_reasons.specs.declared.map.Map.{Map}
 use Rattle.wesl_link_reasons.specs.declared.findings.Findings.{Findings}
@@ -58,9 +58,9 @@ pub record Grows (from to : Search) : Type 0 where
 -- ---- the look-ups that were gone through
 
 module _ (w : List (Table PathId NameId)) where
-  -- a look-up of the node at the place comes to it
+  -- a walk of a look-up of the node at the place comes to it
   abbrev pub IsOnWay : Task PathId NameId → List Found → ℕ → LookUp PathId NameId → Type 0
-  IsOnWay task fs k l = (f : Found) × (slice_get fs k ≡ Some f) × ((start : LookUp PathId NameId) × LooksUp w task f.node start × ComesTo w start l)
+  IsOnWay task fs k l = (f : Found) × (slice_get fs k ≡ Some f) × ((start : LookUp PathId NameId) × LooksUp w task f.node start × WalksTo w start l)
 
   -- its module and what it finds there are found, and where it hops on was gone through too, or is gone through next
   pub record IsThrough (fs : List Found) (trail : List (LookUp PathId NameId)) (next : Option (LookUp PathId NameId)) (l : LookUp PathId NameId) : Type 0 where

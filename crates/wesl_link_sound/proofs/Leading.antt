@@ -1,5 +1,5 @@
 -- What a look-up leads to is decided.
-use Rattle.std.proofs.Common.{◌≡◌, ◌⊎◌, inl, inr, ◌≤◌, List, [], ◌∷◌, length, map, Contains, arith, subst, sym, refl, ap, ◌∙◌}
+use Rattle.std.proofs.Common.{◌≡◌, inl, inr, ◌≤◌, List, [], ◌∷◌, length, map, Contains, arith, subst, sym, ap, ◌∙◌}
 use Rattle.wesl_link_symbols.specs.declared.symbols.Answer.TheVariants.{Declared, Next, Missing, Private, Ambiguous}
 use Rattle.wesl_link_symbols.specs.declared.symbols.Import.{Import}
 use Rattle.wesl_link_symbols.specs.declared.symbols.LookUp.{LookUp}
@@ -11,17 +11,13 @@ use Rattle.wesl_link_symbols.specs.Laws.{IsDecided}
 use Rattle.wesl_link_symbols.proofs.Lists.{contains_nil, contains_first, contains_later, contains_cases}
 use Rattle.wesl_link_symbols.proofs.Once.{once}
 use Rattle.wesl_link_symbols.proofs.Whole.{has_answers}
-use Rattle.wesl_link_reach.specs.World.{IsAt, Hops, Finds, HasMet, SameQuestion, ComesTo, Walk, Reaches, LeadsTo}
-use Rattle.wesl_link_reach.specs.World.ComesTo.{stays, hops}
+use Rattle.wesl_link_reach.specs.World.{IsAt, Hops, Finds, HasMet, SameQuestion, Walk, WalksTo, Reaches, LeadsTo}
 use Rattle.wesl_link_reach.specs.World.Walk.{begin, step}
 use Rattle.wesl_link_reach.specs.Faults.{AreDistinct}
 use Rattle.wesl_link_reach.specs.Faults.AreDistinct.{none as none_distinct, one_more as one_distinct}
 use Rattle.wesl_link_reach.proofs.Lists.{contains_map, map_contains, distinct_length, length_map}
-use Rattle.wesl_link_reach.proofs.Exclusive.{comes_on}
-use Rattle.wesl_link_sound.proofs.Decidable.{IsDecidable, decided_by, both, either, negated, some_of, same_look_up}
-use Rattle.wesl_link_sound.proofs.Finite.{IsFinite, finite_list, finite_one, finite_or, finite_image, finite_each, some_finite, IsListOf, finite_lists}
-use Rattle.wesl_link_sound.proofs.Chains.{Chain, chain_on, along, chain_decided}
-use Rattle.wesl_link_sound.proofs.Chains.Chain.{one}
+use Rattle.wesl_link_sound.proofs.Decidable.{IsDecidable, decided_by, both, negated, some_of, same_look_up}
+use Rattle.wesl_link_sound.proofs.Finite.{IsFinite, finite_list, finite_image, finite_each, some_finite, IsListOf, finite_lists}
 
 module _ {P N : Type 0} (w : List (Table P N)) where
   -- some import asks for it
@@ -35,9 +31,9 @@ module _ {P N : Type 0} (w : List (Table P N)) where
   pub hop_asked : (a b : LookUp P N) → Hops w a b → IsAsked b
   hop_asked a b (t, at, (none, same, (i, asked, is), all)) = (t, at.0, (i, asked.0.0.0, is))
 
-  pub comes_asked : (Q : LookUp P N → Type 0) → ((l : LookUp P N) → IsAsked l → Q l) → (l a : LookUp P N) → ComesTo w l a → Q l → Q a
-  comes_asked Q into l a (stays _) q = q
-  comes_asked Q into l a (hops _ next _ h rest) q = comes_asked Q into next a rest (into next (hop_asked l next h))
+  pub walk_asked : (Q : LookUp P N → Type 0) → ((l : LookUp P N) → IsAsked l → Q l) → (l : LookUp P N) (m : List (LookUp P N)) (a : LookUp P N) → Walk w l m a → Q l → Q a
+  walk_asked Q into l m a (begin _ e) q = subst Q (sym e) q
+  walk_asked Q into l m a (step n b _ r new h) q = into a (hop_asked b a h)
 
   -- ---- walks
 
@@ -166,19 +162,9 @@ module _ {P N : Type 0} (w : List (Table P N)) where
         (λ a. both (reaches_decided l a) (finds_decided a s)))
         (λ h. (h.0, h.1.0, h.1.1)) (λ h. (h.0, (h.1, h.2)))
 
-    -- what it comes to
-    comes_chain : (l a : LookUp P N) → ComesTo w l a → (l ≡ a) ⊎ Chain (Hops w) l a
-    comes_chain l a (stays _) = inl refl
-    comes_chain l a (hops _ next _ h rest) = inr (elim (comes_chain next a rest) [
-      | inl e ↦ one a (subst (λ (x : LookUp P N). Hops w l x) e h)
-      | inr c ↦ chain_on (Hops w) l next a (one next h) c
-    ])
-
-    chain_comes : (l a : LookUp P N) → (l ≡ a) ⊎ Chain (Hops w) l a → ComesTo w l a
-    chain_comes l a (inl e) = subst (λ (x : LookUp P N). ComesTo w l x) e (stays l)
-    chain_comes l a (inr c) = along (Hops w) (λ x. ComesTo w l x) (λ x y k h. comes_on l x y k h) l a (stays l) c
-
-    pub comes_decided : (l a : LookUp P N) → IsDecidable (ComesTo w l a)
-    comes_decided l a = decided_by (either (same_look_up ps ns l a)
-        (chain_decided (Hops w) (λ (x : LookUp P N). (x ≡ l) ⊎ IsAsked x) (λ x y q h. inr (hop_asked x y h)) (finite_or (λ (x : LookUp P N). x ≡ l) IsAsked (finite_one l) finite_asked) hops_decided l a (inl refl)))
-        (chain_comes l a) (comes_chain l a)
+    -- where it walks to
+    pub walks_decided : (l a : LookUp P N) → IsDecidable (WalksTo w l a)
+    walks_decided l a =
+        let (us, there) = finite_asked in
+        some_finite (IsListOf (l ∷ us) (length (l ∷ us))) (λ (m : List (LookUp P N)). Walk w l m a) (finite_lists (l ∷ us) (length (l ∷ us))) (λ m r. walk_short us there l m a r)
+        (λ m. walk_decided l m a)

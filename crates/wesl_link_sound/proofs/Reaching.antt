@@ -8,16 +8,15 @@ use Rattle.wesl_link_symbols.specs.declared.symbols.Symbol.{Symbol}
 use Rattle.wesl_link_symbols.specs.Tables.{Declaration, Table}
 use Rattle.wesl_link_symbols.specs.Names.{Declares, AsksFrom, asked_for, asked_by}
 use Rattle.wesl_link_symbols.specs.Laws.{IsDecided}
-use Rattle.wesl_link_reach.specs.World.{IsAt, ComesTo, LeadsTo, Task, IsKept, Entered, Reached, Followed}
+use Rattle.wesl_link_reach.specs.World.{IsAt, Walk, WalksTo, LeadsTo, Task, IsKept, Entered, Reached, Followed}
 use Rattle.wesl_link_reach.specs.World.Entered.{root, asked, imported}
 use Rattle.wesl_link_reach.specs.World.Reached.{led_to, declared}
 use Rattle.wesl_link_reach.specs.World.Followed.{kept, by_assert, by_symbol}
-use Rattle.wesl_link_reach.proofs.Exclusive.{walk_comes}
 use Rattle.wesl_link_sound.proofs.Decidable.{IsDecidable, decided_by, both, some_of, same_bool, same_option, same_look_up}
 use Rattle.wesl_link_sound.proofs.Finite.{IsFinite, finite_list, finite_one, finite_some, finite_or, finite_within, finite_image, finite_each, some_finite}
 use Rattle.wesl_link_sound.proofs.Chains.{Chain, along, chain_decided}
 use Rattle.wesl_link_sound.proofs.Chains.Chain.{one, more}
-use Rattle.wesl_link_sound.proofs.Leading.{IsAsked, finite_asked, comes_asked, some_at, leads_decided, comes_decided}
+use Rattle.wesl_link_sound.proofs.Leading.{IsAsked, finite_asked, walk_asked, some_at, leads_decided, walks_decided}
 
 -- where a link begins, a path that is entered, a symbol that is reached, a look-up that is followed
 pub data Node (P N : Type 0) : Type 0 where
@@ -30,7 +29,7 @@ module _ {P N : Type 0} (w : List (Table P N)) (task : Task P N) where
   abbrev pub Steps : Node P N → Node P N → Type 0
   Steps start (at_path p) = p ≡ task.root
   Steps start (at_look_up l) = IsKept task l
-  Steps (at_look_up l) (at_path p) = (a : LookUp P N) × ComesTo w l a × (a.path ≡ p)
+  Steps (at_look_up l) (at_path p) = (a : LookUp P N) × WalksTo w l a × (a.path ≡ p)
   Steps (at_look_up l) (at_symbol s) = LeadsTo w l s
   Steps (at_path q) (at_path p) = (task.is_eager ≡ true) × ((t : Table P N) × IsAt w q t × ((i : Import P N) × Contains t.imports i × (i.path ≡ p)))
   Steps (at_path p) (at_symbol s) = (task.is_eager ≡ true) × (p ≡ s.path) × ((t : Table P N) × IsAt w s.path t × Declares t s.name)
@@ -49,7 +48,7 @@ module _ {P N : Type 0} (w : List (Table P N)) (task : Task P N) where
   holds_on : (a b : Node P N) → Holds a → Steps a b → Holds b
   holds_on start (at_path p) h e = root p e
   holds_on start (at_look_up l) h k = kept l k
-  holds_on (at_look_up l) (at_path p) h (a, comes, e) = asked l a p h comes e
+  holds_on (at_look_up l) (at_path p) h (a, walks, e) = asked l a p h walks e
   holds_on (at_look_up l) (at_symbol s) h leads = led_to l s h leads
   holds_on (at_path q) (at_path p) h (eager, (t, at, (i, held, e))) = imported q p t i eager h at held e
   holds_on (at_path p) (at_symbol s) h (eager, e, (t, at, d)) = declared s t eager (subst (λ (x : P). Entered w task x) e h) at d
@@ -60,7 +59,7 @@ module _ {P N : Type 0} (w : List (Table P N)) (task : Task P N) where
   mutual
     entered_chain : (p : P) → Entered w task p → Chain Steps start (at_path p)
     entered_chain p (root _ e) = one (at_path p) e
-    entered_chain p (asked l a _ f comes e) = more (at_look_up l) (at_path p) (followed_chain l f) (a, comes, e)
+    entered_chain p (asked l a _ f walks e) = more (at_look_up l) (at_path p) (followed_chain l f) (a, walks, e)
     entered_chain p (imported q _ t i eager h at held e) = more (at_path q) (at_path p) (entered_chain q h) (eager, (t, at, (i, held, e)))
 
     reached_chain : (s : Symbol P N) → Reached w task s → Chain Steps start (at_symbol s)
@@ -108,8 +107,8 @@ module _ {P N : Type 0} (w : List (Table P N)) (task : Task P N) where
   asks_referred : (t : Table P N) (name : Option N) (l : LookUp P N) → Contains w t → AsksFrom t name l → IsLookUp l
   asks_referred t name l held (r, (d, c, e, k), is) = inr (inl (t, held, (d, c, (r, k, is))))
 
-  comes_in : (l a : LookUp P N) → ComesTo w l a → IsLookUp l → IsLookUp a
-  comes_in l a comes h = comes_asked w IsLookUp (λ x k. inr (inr k)) l a comes h
+  walk_in : (l : LookUp P N) (m : List (LookUp P N)) (a : LookUp P N) → Walk w l m a → IsLookUp l → IsLookUp a
+  walk_in l m a r h = walk_asked w IsLookUp (λ x k. inr (inr k)) l m a r h
 
   symbol_is : (s : Symbol P N) (t : Table P N) → t.path ≡ s.path → s ≡ symbol_in t s.name
   symbol_is s t e = ap (λ (v : P). record { path = v; name = s.name }) (sym e)
@@ -117,8 +116,8 @@ module _ {P N : Type 0} (w : List (Table P N)) (task : Task P N) where
   node_on : (a b : Node P N) → IsNode a → Steps a b → IsNode b
   node_on start (at_path p) h e = inl e
   node_on start (at_look_up l) h k = inl k
-  node_on (at_look_up l) (at_path p) h (a, comes, e) = inr (a, comes_in l a comes h, sym e)
-  node_on (at_look_up l) (at_symbol s) h (a, (m, r, new), (t, at, ans, is)) = inl (a, comes_in l a (walk_comes l m a r) h, is)
+  node_on (at_look_up l) (at_path p) h (a, (m, r), e) = inr (a, walk_in l m a r h, sym e)
+  node_on (at_look_up l) (at_symbol s) h (a, (m, r, new), (t, at, ans, is)) = inl (a, walk_in l m a r h, is)
   node_on (at_path q) (at_path p) h (eager, (t, at, (i, held, e))) = inr (asked_by t i, inr (inr (t, at.0, (i, held, refl))), sym e)
   node_on (at_path p) (at_symbol s) h (eager, e, (t, at, (d, c, named))) = inr (t, at.0, (d, c, (s.name, named, symbol_is s t at.1)))
   node_on (at_path p) (at_look_up l) h (t, at, asks) = asks_referred t None l at.0 asks
@@ -193,10 +192,10 @@ module _ {P N : Type 0} (w : List (Table P N)) (task : Task P N) where
     declares_decided : (t : Table P N) (n : N) → IsDecidable (Declares t n)
     declares_decided t n = some_of (λ (d : Declaration P N). d.name ≡ Some n) (λ d. same_option ns d.name (Some n)) t.declarations
 
-    enters_decided : (l : LookUp P N) (p : P) → IsDecidable ((a : LookUp P N) × ComesTo w l a × (a.path ≡ p))
+    enters_decided : (l : LookUp P N) (p : P) → IsDecidable ((a : LookUp P N) × WalksTo w l a × (a.path ≡ p))
     enters_decided l p = decided_by
-        (some_finite (λ (a : LookUp P N). (a ≡ l) ⊎ IsAsked w a) (λ (a : LookUp P N). ComesTo w l a × (a.path ≡ p)) (finite_or (λ (a : LookUp P N). a ≡ l) (IsAsked w) (finite_one l) (finite_asked w))
-        (λ a k. comes_asked w (λ (x : LookUp P N). (x ≡ l) ⊎ IsAsked w x) (λ x h. inr h) l a k.0 (inl refl)) (λ a. both (comes_decided w ps ns l a) (ps a.path p)))
+        (some_finite (λ (a : LookUp P N). (a ≡ l) ⊎ IsAsked w a) (λ (a : LookUp P N). WalksTo w l a × (a.path ≡ p)) (finite_or (λ (a : LookUp P N). a ≡ l) (IsAsked w) (finite_one l) (finite_asked w))
+        (λ a ((m, r), e). walk_asked w (λ (x : LookUp P N). (x ≡ l) ⊎ IsAsked w x) (λ x h. inr h) l m a r (inl refl)) (λ a. both (walks_decided w ps ns l a) (ps a.path p)))
         (λ k. (k.0, k.1.0, k.1.1)) (λ k. (k.0, (k.1, k.2)))
 
     steps_decided : (a b : Node P N) → IsDecidable (Steps a b)

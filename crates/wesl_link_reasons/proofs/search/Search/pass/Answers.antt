@@ -50,9 +50,9 @@ returns-in-Next-clause-followed c = puts_has _ _ _ c.in_ok-put.ensures.puts
 
 pub returns-in-Next-clause-way : goal.returns-in-Next-clause-way
 returns-in-Next-clause-way c =
-    way_next (world_in c.args.map.now) (task_in c.args.map.now) _ c.args.asker c.args.look_up c.in-Next.next
-    (next_hops (world_in c.args.map.now) (task_in c.args.map.now) c.requires.ready.unbroken c.args.look_up c.in-Next.next c.in-Next.ensures)
-    (way_on (world_in c.args.map.now) (task_in c.args.map.now) c.in_ok-note.ensures.adds.kept c.args.asker c.args.look_up c.requires.way)
+    way_on (world_in c.args.map.now) (task_in c.args.map.now) c.in_ok-note.ensures.adds.kept c.args.asker c.in-Next.next
+    (way_next (world_in c.args.map.now) (task_in c.args.map.now) c.requires.ready.unbroken _ c.args.asker c.args.look_up c.in-Next.next c.requires.sound.held
+    (next_hops (world_in c.args.map.now) (task_in c.args.map.now) c.requires.ready.unbroken c.args.look_up c.in-Next.next c.in-Next.ensures) c.requires.way)
 
 pub returns-in_default : goal.returns-in_default
 returns-in_default c = record {
