@@ -6,3 +6,4 @@ pub mod Grouping
 pub mod Orders
 pub mod Unsplit
 pub mod Once
+pub mod Asked

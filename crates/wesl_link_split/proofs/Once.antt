@@ -15,7 +15,7 @@ use Rattle.wesl_link_split.specs.Uses.{texts, module_in_place}
 use Rattle.wesl_link_split.proofs.Targets.{unlike, not_any, positive, both_true, place_is}
 
 module _ {X : Type 0} (t : X → X → Bool) where
-  alike_first : (x : X) (xs : List X) → unlike t (x ∷ xs) ≡ false → (y : X) → Contains (x ∷ xs) y → t x y ≡ true
+  pub alike_first : (x : X) (xs : List X) → unlike t (x ∷ xs) ≡ false → (y : X) → Contains (x ∷ xs) y → t x y ≡ true
   alike_first x xs h y c =
       positive (t x y) (not_any (λ z. not (t x z)) (x ∷ xs) (not_any (λ w. list_any (λ z. not (t w z)) (x ∷ xs)) (x ∷ xs) h x (0, omega arith, refl)) y c)
 

@@ -117,7 +117,7 @@ references_equal x y z e f =
 
 -- ---- which binders are seen
 
-sight_eq : (xs ys : List Bool) → split.same_sight xs ys ≡ true → xs ≡ ys
+pub sight_eq : (xs ys : List Bool) → split.same_sight xs ys ≡ true → xs ≡ ys
 sight_eq [] [] h = refl
 sight_eq (true ∷ xs) (true ∷ ys) h = ap (λ l. true ∷ l) (sight_eq xs ys h)
 sight_eq (false ∷ xs) (false ∷ ys) h = ap (λ l. false ∷ l) (sight_eq xs ys h)

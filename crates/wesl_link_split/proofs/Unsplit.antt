@@ -26,7 +26,7 @@ filter_all : {X : Type 0} (p : X → Bool) (xs : List X) → ((x : X) → p x �
 filter_all p [] h = refl
 filter_all p (x ∷ xs) h = ap (λ b. if b then x ∷ filter p xs else filter p xs) (h x) ∙ ap (λ l. x ∷ l) (filter_all p xs h)
 
-filter_in : {X : Type 0} (p : X → Bool) (xs : List X) (x : X) → Contains (filter p xs) x → Contains xs x × (p x ≡ true)
+pub filter_in : {X : Type 0} (p : X → Bool) (xs : List X) (x : X) → Contains (filter p xs) x → Contains xs x × (p x ≡ true)
 filter_in p [] x (k, l, e) = absurd (omega (arith, l))
 filter_in {X} p (y ∷ xs) x c = by (p y) refl c (λ d. filter_in p xs x d)
   where

@@ -1,6 +1,7 @@
--- What names ask for in a module that is known by numbers is what they ask for by its paths and texts; and they ask once for
--- what they lead to.
-use Rattle.std.specs.Prelude.{◌≡◌, ◌↔◌, false, List, [], ◌∷◌, Contains}
+-- What names ask for in a module that is known by numbers is what they ask for by its paths and texts; they ask once for what
+-- they lead to; and an import asks from a place that answers as its own.
+use Rattle.std.specs.Prelude.{◌≡◌, ◌⊎◌, ◌↔◌, true, false, List, [], ◌∷◌, Contains}
+use Rattle.std.specs.List.{list_any}
 use Rattle.wesl_tree_names.specs.Path.{Text, Path}
 use Rattle.wesl_cond_choices.specs.declared.place.Place.{Place}
 use Rattle.wesl_link_symbols.specs.declared.ids.PathId.{PathId}
@@ -52,3 +53,25 @@ abbrev pub AimsAsEach : Type 0
 AimsAsEach =
     (own p : Path) (bs : List (Binder Path Text)) → split.has_two_targets texts bs ≡ false
     → (b : Binder Path Text) → Contains bs b → aims own bs p ≡ module_in_place p b ∷ []
+
+module _ (s : Scope Path Text) (bs cs : List (Binder Path Text)) where
+  -- these binders of a name aim at one thing, the same for both, and it ends there: a declaration of the name is among them, or
+  -- what they aim at is no split name of the module
+  pub record EndAlike : Type 0 where
+    pub one : (b c : Binder Path Text) → Contains bs b → Contains cs c → (b.path ≡ c.path) × (b.item ≡ c.item)
+    pub ends :
+        ((list_any (λ b. b.declares) bs ≡ true) × (list_any (λ c. c.declares) cs ≡ true))
+        ⊎ ((b : Binder Path Text) → Contains bs b ⊎ Contains cs b → split.is_own_split texts s b.path b.item ≡ false)
+
+  -- who sees these binders of a name finds what one finds who sees those
+  abbrev pub AnswerAlike : Type 0
+  AnswerAlike =
+      (bs ≡ cs)
+      ⊎ (((split.has_two_targets texts bs ≡ true) × (split.has_two_targets texts cs ≡ true))
+      ⊎ EndAlike)
+
+-- an import of a split name of its own module sees it from where it asks as from where it stands
+abbrev pub AsksAsItself : Type 0
+AsksAsItself =
+    (s : Scope Path Text) (b : Binder Path Text) → split.is_own_split texts s b.path b.item ≡ true
+    → AnswerAlike s (split.seen texts s b.item b.stands) (split.seen texts s b.item (split.from_of texts s b))

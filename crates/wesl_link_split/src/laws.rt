@@ -1,5 +1,5 @@
 //! Laws and rows of split names, each the contract of a function that does nothing.
-ghost use Rattle.wesl_link_split.specs.Laws.{NumbersAskAlike, NumbersDifferAlike, AsksForAll, AimsAsEach};
+ghost use Rattle.wesl_link_split.specs.Laws.{NumbersAskAlike, NumbersDifferAlike, AsksForAll, AimsAsEach, AsksAsItself};
 ghost use Rattle.wesl_link_split.specs.SplitRows.{SplitRows};
 
 /// The rows of split names hold.
@@ -17,4 +17,10 @@ pub fn law_of_numbers()
 pub fn law_of_equals()
     ensures names { AsksForAll }
     ensures paths { AimsAsEach }
+{}
+
+/// Of several imports of a split name of their own module one may ask for all: a look-up of that name from where an import asks
+/// is answered as one from where it stands.
+pub fn law_of_askers()
+    ensures { AsksAsItself }
 {}
