@@ -29,7 +29,7 @@ module _ {P N : Type 0} where
   abbrev pub NoneBefore : List (LookUp P N × Symbol P N) → Symbol P N → ℕ → Type 0
   NoneBefore steps q n = (k : ℕ) (l : LookUp P N) (s : Symbol P N) → StepAt steps k l s → symbol_of l ≡ q → n ≤ k
 
-  -- the steps after a look-up is put: they stay if it is among them, and else it goes last
+  -- the steps after a look-up is put: it is among them and they stay, or it goes last, be it among them or not
   abbrev pub PutsStep : List (LookUp P N × Symbol P N) → LookUp P N → Symbol P N → List (LookUp P N × Symbol P N) → Type 0
   PutsStep old l s new = ((new ≡ old) × ((k : ℕ) × (t : Symbol P N) × StepAt old k l t)) ⊎ (new ≡ old ++ (l, s) ∷ [])
 

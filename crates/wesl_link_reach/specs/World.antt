@@ -61,7 +61,7 @@ module _ {P N : Type 0} where
   abbrev pub IsMissingAt : List (Table P N) → LookUp P N → P → N → Type 0
   IsMissingAt w l p n = (a : LookUp P N) × (a.path ≡ p) × (a.name ≡ n) × (EndsWith w l a Missing ⊎ ((met : List (LookUp P N)) × Walk w l met a × HasMet met a))
 
-  -- a walk comes to a module that has unpublished imports of the name alone
+  -- a walk comes to a module where nothing of the name is seen, and which has unpublished imports of it
   abbrev pub IsPrivateAt : List (Table P N) → LookUp P N → N → P → Type 0
   IsPrivateAt w l n p = (a : LookUp P N) × (a.path ≡ p) × (a.name ≡ n) × EndsWith w l a Private
 

@@ -154,7 +154,8 @@ fn link<E, L: Loader<E>>(
 }
 
 /// Loads the modules that the kept names of the root and the const_asserts reach, and no others; or, of an eager link, the
-/// modules that the root imports from, and those that they import from, and holds all that they declare too.
+/// modules that the root imports from or refers to, and those that they import from or refer to, and holds all that they
+/// declare too.
 ///
 /// `loader` hands out each module but the root, once a path at most; no more than `max_modules` are loaded, the root counted.
 /// It is refused where binders of one name with different targets are there at once, where a name stands for two things

@@ -35,7 +35,7 @@ pub record AreSorted (fs : List Found) (places : List (Node PathId NameId × ℕ
 pub record StaysFound (from to : List Found) : Type 0 where
   pub at : (k : ℕ) (f : Found) → slice_get from k ≡ Some f → slice_get to k ≡ Some f
 
--- nodes were added at the end: those that Q holds of, as that asker's, where they were not found before
+-- what was found stays, all that was added at the end is that asker's and Q holds of it, and all that Q holds of is found
 pub record AddsFound (from to : List Found) (asker : Option ℕ) (Q : Node PathId NameId → Type 0) : Type 0 where
   pub kept : StaysFound from to
   pub only : (k : ℕ) (f : Found) → slice_get to k ≡ Some f → (slice_get from k ≡ Some f) ⊎ ((length from ≤ k) × (f.asker ≡ asker) × Q f.node)

@@ -19,7 +19,7 @@ module _ {P N : Type 0} where
       (Declares t l.name → ⊥) × ((i : Import P N) × Imports t l.name i) × ((i : Import P N) → Imports t l.name i → Shows l.asker t.path i → ⊥)
   AnswersOfOne t l Ambiguous = ⊥
 
--- the binders of the name have one target, stand everywhere, and its imports ask from one place
+-- the binders of the name have one target and stand everywhere, and its imports ask from one place and have one order
 pub record HasOneTarget {P N : Type 0} (t : Table P N) (n : N) : Type 0 where
   pub declared : (d : Declaration P N) → Contains t.declarations d → d.name ≡ Some n → d.place ≡ Always
   pub imported : (i : Import P N) → Imports t n i → i.place ≡ Always
@@ -28,7 +28,7 @@ pub record HasOneTarget {P N : Type 0} (t : Table P N) (n : N) : Type 0 where
   pub from : (i j : Import P N) → Imports t n i → Imports t n j → i.from ≡ j.from
   pub order : (i j : Import P N) → Imports t n i → Imports t n j → i.order ≡ j.order
 
--- names with one target are answered as by the plain relation
+-- names with one target, whose imports have one `from` and one `order`, are answered as by the plain relation
 abbrev pub IsAsBefore : (P N : Type 0) → Type 0
 IsAsBefore P N = (t : Table P N) (l : LookUp P N) (a : Answer P N) → HasOneTarget t l.name → Answers t l a ↔ AnswersOfOne t l a
 

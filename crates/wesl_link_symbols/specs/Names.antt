@@ -56,10 +56,19 @@ module _ {P N : Type 0} where
   abbrev pub IsHiddenFrom : Table P N → LookUp P N → Import P N → Type 0
   IsHiddenFrom t l i = Imports t l.name i × (Shows l.asker t.path i → ⊥)
 
-  -- of these, those that are asked: the ones whose look-up ends in a fault, where there are some
+  -- of those that it may follow, the ones that are asked, of the least order: those that find nothing, else those that find
+  -- two targets, else all
   abbrev pub IsAskedTo : Table P N → LookUp P N → Import P N → Type 0
   IsAskedTo t l i = IsOpenTo t l i × ((j : Import P N) → IsOpenTo t l j → i.order ≤ j.order)
 
+  -- What a module answers to a look-up. Its declarations of the name count where they are seen, its imports of the name
+  -- where they may be followed:
+  -- `Declared`: it declares the name, and all those imports aim at its own declaration;
+  -- `Next`: it does not declare it, those imports have one target, and the ones that are asked all ask this;
+  -- `Missing`: it does not declare it, has none of those imports, and no import of the name is hidden;
+  -- `Private`: it does not declare it, has none of those imports, but some import of the name is hidden;
+  -- `Ambiguous`: it declares it, and one of those imports aims elsewhere; or it does not, and two of them have different
+  -- targets, or two that are asked ask different things.
   abbrev pub Answers : Table P N → LookUp P N → Answer P N → Type 0
   Answers t l Declared = DeclaresTo t l × ((i : Import P N) → IsOpenTo t l i → IsOwn t.path i)
   Answers t l (Next n) =

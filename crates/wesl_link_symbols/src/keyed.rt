@@ -2,7 +2,7 @@
 //!
 //! They are types of std: a library carries all that is stated of the types that its public interface reaches, private
 //! fields' types too, but for those of std.
-ghost use Rattle.std.specs.Prelude.{◌≡◌, ◌↔◌, true, IsTrue, IfSome, IfNone, OnOk, Contains};
+ghost use Rattle.std.specs.Prelude.{◌≡◌, ◌↔◌, true, IsTrue, IfSome, IfNone, OnOk, OnErr, Contains};
 ghost use Rattle.wesl_link_symbols.specs.Keyed.{Puts, PutsKey, HaveTheSame};
 
 use std::alloc::AllocError;
@@ -25,13 +25,14 @@ pub fn value_at<K: Identity, V: Copy>(map: &HashMap<K, V>, key: K) -> Option<V>
     }
 }
 
-/// Puts a value at a key, in place of the one that is there.
+/// Puts a value at a key, in place of the one that is there. Where memory is wanting the map stays as it was.
 pub fn put<K: Identity, V: Drop>(
     map: &mut HashMap<K, V>,
     key: K,
     value: V,
 ) -> Result<(), AllocError>
-    ensures { OnOk result (Puts map.old.entries key value map.new.entries) }
+    ensures puts { OnOk result (Puts map.old.entries key value map.new.entries) }
+    ensures stays { OnErr result (map.new.entries ≡ map.old.entries) }
 {
     match map.insert(key, value) {
         Ok(_) => Ok(()),
@@ -39,7 +40,8 @@ pub fn put<K: Identity, V: Drop>(
     }
 }
 
-/// Puts a key at the end of a list, unless it is there; the set has the keys of the list.
+/// Puts a key at the end of a list, unless it is there; the set has the keys of the list. Where memory is wanting both stay as
+/// they were.
 pub fn put_key<K: Identity>(
     keys: &mut Vec<K>,
     held: &mut HashSet<K>,
@@ -48,6 +50,8 @@ pub fn put_key<K: Identity>(
     requires same { HaveTheSame keys.old.items held.old.keys }
     ensures puts { OnOk result (PutsKey keys.old.items key keys.new.items) }
     ensures stays { HaveTheSame keys.new.items held.new.keys }
+    ensures keys_stay { OnErr result (keys.new.items ≡ keys.old.items) }
+    ensures held_stays { OnErr result (held.new.keys ≡ held.old.keys) }
 {
     if held.contains(&key) {
         return Ok(());

@@ -11,7 +11,8 @@ pub fn law_of_all<P, N>()
     ensures { HasAnswers P N }
 {}
 
-/// A look-up of a name whose binders have one target is answered as by the plain relation, in which conditions play no part.
+/// A look-up of a name whose binders have one target and stand everywhere, and whose imports ask from one place and have one
+/// order, is answered as by the plain relation, in which conditions play no part.
 pub fn law_of_one_target<P, N>()
     ensures { IsAsBefore P N }
 {}

@@ -99,7 +99,7 @@ pub enum Answer<P, N> {
     Next(LookUp<P, N>),
     /// It has no such name.
     Missing,
-    /// It has unpublished imports of the name alone.
+    /// Nothing of the name is seen there, and it has unpublished imports of it.
     Private,
     /// The name stands for two things there.
     Ambiguous,

@@ -27,14 +27,14 @@ pub returns-in-Some-clause-sound : goal.returns-in-Some-clause-sound
 returns-in-Some-clause-sound g c =
     let (k, low, at) = c.in-Some.ensures in
     sound_answered (g.L.Loader.hands c.hops.loader) (g.L.Loader.ready c.hops.loader) c.args.request.now c.hops.loaded c.tread_back.new.loaded _ c.args.start c.in-Some.symbol c.tread_back.ensures.rest c.hops.invariant.sound
-    c.in_ok-tread_back.ensures.trodden c.in_ok-tread_back.ensures.leads (c.hops.invariant.sound.trodden k _ _ at).held c.in_ok-put.ensures
+    c.in_ok-tread_back.ensures.trodden c.in_ok-tread_back.ensures.leads (c.hops.invariant.sound.trodden k _ _ at).held c.in_ok-put.ensures.puts
 
 pub returns-in-Some-clause-grows : goal.returns-in-Some-clause-grows
 returns-in-Some-clause-grows g c =
     grows_trans _ _ _ c.hops.invariant.grows (grows_trans _ _ _ (grows_trodden c.hops.loaded c.tread_back.new.loaded c.tread_back.ensures.rest c.in_ok-tread_back.ensures.more) record {
       modules = goes_on_itself _;
       symbols = goes_on_itself _;
-      answers = answers_on _ _ _ _ c.in_ok-put.ensures;
+      answers = answers_on _ _ _ _ c.in_ok-put.ensures.puts;
       steps = goes_on_itself _;
     })
 
@@ -62,13 +62,13 @@ pub returns-in-None-clause-sound : goal.returns-in-None-clause-sound
 returns-in-None-clause-sound g c =
     let (finds, held) = rw c.in-None.is at c.in_ok-next.ensures.found in
     sound_answered (g.L.Loader.hands c.hop.new.loader) (g.L.Loader.ready c.hop.new.loader) c.args.request.now c.hop.new.loaded c.tread.new.loaded _ c.args.start _ c.tread.ensures.rest c.in_ok-next.ensures.sound
-    c.in_ok-tread-in-None.ensures.trodden c.in_ok-tread-in-None.ensures.leads held (rw c.question-asked.ensures at c.in_ok-put-in-None.ensures)
+    c.in_ok-tread-in-None.ensures.trodden c.in_ok-tread-in-None.ensures.leads held (rw c.question-asked.ensures at c.in_ok-put-in-None.ensures.puts)
 
 pub returns-in-None-clause-grows : goal.returns-in-None-clause-grows
 returns-in-None-clause-grows g c =
     grows_trans _ _ _ c.hops.invariant.grows (grows_trans _ _ _ c.in_ok-next.ensures.grows (grows_trans _ _ _ (grows_trodden c.hop.new.loaded c.tread.new.loaded c.tread.ensures.rest c.in_ok-tread-in-None.ensures.more) record {
       modules = goes_on_itself _;
       symbols = goes_on_itself _;
-      answers = answers_on _ _ _ _ c.in_ok-put-in-None.ensures;
+      answers = answers_on _ _ _ _ c.in_ok-put-in-None.ensures.puts;
       steps = goes_on_itself _;
     }))

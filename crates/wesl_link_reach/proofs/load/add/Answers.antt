@@ -15,7 +15,7 @@ returns-clause-sound g c =
     let counted : c.len.result ≡ length c.args.loaded.now.others.items = search rules in
     rw c.in_ok-push.ensures.items
     (sound_table _ c.args.table c.len.result counted c.requires.sound c.requires.handed c.requires.ready_paths c.requires.entered c.requires.absent c.requires.room
-    record { clear = c.in_default.ensures.none; roomy = sym c.is_crowded.ensures ∙ c.if-is_crowded.false } (rw (← c.path-2.ensures) c.in_ok-put.ensures))
+    record { clear = c.in_default.ensures.none; roomy = sym c.is_crowded.ensures ∙ c.if-is_crowded.false } (rw (← c.path-2.ensures) c.in_ok-put.ensures.puts))
 
 pub returns-clause-there : goal.returns-clause-there
 returns-clause-there g c = there_more c.args.request.now.root c.args.loaded.now.others.items _ c.args.table c.in_ok-push.ensures.items

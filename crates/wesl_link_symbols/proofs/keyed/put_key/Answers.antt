@@ -16,6 +16,9 @@ pub returns-in-Ok-clause-stays : goal.returns-in-Ok-clause-stays
 returns-in-Ok-clause-stays g c =
     same_more g.K.PartialEq.eq g.met.K.Identity.same g.met.K.Eq.laws c.args.keys.now.items c.args.held.now.keys c.push.new.self.items c.insert.new.self.keys c.args.key c.requires.same c.in_ok-push.ensures.items c.in-Ok.ensures.updates.0
 
+pub returns-in-Err-clause-keys_stay : goal.returns-in-Err-clause-keys_stay
+returns-in-Err-clause-keys_stay g c = popped c.args.keys.now.items c.push.new.self.items c.pop.new.self.items c.args.key _ c.push.new.self.ok.0 c.in_ok-push.ensures.items c.pop.ensures.rest
+
 pub returns-in-Err-clause-stays : goal.returns-in-Err-clause-stays
 returns-in-Err-clause-stays g c =
     let back = popped c.args.keys.now.items c.push.new.self.items c.pop.new.self.items c.args.key _ c.push.new.self.ok.0 c.in_ok-push.ensures.items c.pop.ensures.rest in
