@@ -1,1 +1,2 @@
 pub mod Why
+pub mod Explained

@@ -1,7 +1,11 @@
 -- Why something is held in a link, as it is told.
-use Rattle.std.specs.Prelude.{◌≡◌, ◌⊎◌, Bool, Option, Some, None, List, []}
+use Rattle.std.specs.Prelude.{◌≡◌, ◌⊎◌, ℕ, Bool, Option, Some, None, List, []}
 use Rattle.wesl_link_symbols.specs.declared.ids.PathId.{PathId}
 use Rattle.wesl_tree_base.specs.declared.ids.NameId.{NameId}
+use Rattle.wesl_tree_names.specs.declared.errors.ResolveError.{ResolveError}
+use Rattle.wesl_link_symbols.specs.Tables.{Table}
+use Rattle.wesl_link_reach.specs.World.{Task}
+use Rattle.wesl_link_reach.specs.Linking.{Linking, IsLinked}
 use Rattle.wesl_link_reasons.specs.declared.found.Found.{Found}
 use Rattle.wesl_link_reasons.specs.declared.node.Node.{Node}
 use Rattle.wesl_link_reasons.specs.declared.node.Node.TheVariants.{Module, Item}
@@ -18,6 +22,14 @@ node_of p (Some n) = Item (record { path = p; name = n })
 abbrev pub TellsWhy : List Found → Node PathId NameId → List (Node PathId NameId) → Type 0
 TellsWhy fs x xs = Explains fs x xs ⊎ ((xs ≡ []) × Denies fs x)
 
--- the reasons are those of the link, from its kept names, or of all that is declared
+-- A link of symbol tables: exactly the modules and symbols that are reached from the root are in it, and no fault stands.
+-- Which tables they are is not said.
+abbrev pub IsLink : Table PathId NameId → Task PathId NameId → Linking PathId NameId → Type 0
+IsLink root task k = (limit : ℕ) × IsLinked {E = ResolveError} (λ p t. Unit {0}) (λ p e. Unit {0}) root task limit k
+
+-- it is a link from the kept names of a root, or of all that is declared, and the reasons are those of this link
 abbrev pub HasItsReasons : Bool → World → Type 0
-HasItsReasons is_eager w = (root : PathId) × AreReasons w.linked.tables (task_from root w.kept.items is_eager) w.reasons
+HasItsReasons is_eager w =
+    (root : Table PathId NameId)
+    × IsLink root (task_from root.path w.kept.items is_eager) w.linked
+    × AreReasons w.linked.tables (task_from root.path w.kept.items is_eager) w.reasons

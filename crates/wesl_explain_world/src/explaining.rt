@@ -1,6 +1,8 @@
 //! From the bytes of a bundle to what is told of its link.
-ghost use Rattle.std.specs.Prelude.{◌≡◌, false};
+ghost use Rattle.std.specs.Prelude.{◌≡◌, false, IfOk};
 ghost use Rattle.wesl_tree_names.specs.Path.{path_view, is_relative};
+ghost use Rattle.wesl_explain_world.specs.Why.{HasItsReasons};
+ghost use Rattle.wesl_explain_world.specs.Explained.{ExplainsHeld, ExplainsLink, TellsWhyAll};
 
 use crate::asking::unused_imports;
 use crate::clashing::clashes_in;
@@ -24,8 +26,10 @@ use wesl_tree::{Diagnostic, Error, ModulePath, TranslationUnit};
 use wesl_validate::validate_wgsl;
 use wesl_validate_builtins::Builtins;
 
-/// What is told of the bundle that the bytes are.
-pub fn explained(alloc: Global, bytes: &[u8]) -> Result<Explanation, AllocError> {
+/// What is told of the bundle that the bytes are: why the modules and declarations of a link are held in it, or a fault.
+pub fn explained(alloc: Global, bytes: &[u8]) -> Result<Explanation, AllocError>
+    ensures { IfOk result (ExplainsHeld bytes.now) }
+{
     let mut scratch = Scratch::new(alloc);
     let arena = Bump::new(alloc);
     match bundle_of_bytes(alloc, bytes, &mut scratch, &arena) {
@@ -58,6 +62,7 @@ fn builtins_of(listed: Option<BuiltinNames>) -> Option<Builtins> {
 // What is told of a bundle.
 fn explain(alloc: Global, bundle: Bundle) -> Result<Explanation, AllocError>
     requires { is_relative (path_view bundle.root) ≡ false }
+    ensures { IfOk result (ExplainsLink bundle.entry.options.eager) }
 {
     let Bundle {
         root,
@@ -116,6 +121,7 @@ fn world_in(
     sources: Sources<'_>,
 ) -> Result<(World, Texts), Error>
     requires { is_relative (path_view request.now.root.now) ≡ false }
+    ensures { IfOk result (λ found. HasItsReasons request.now.is_eager found.0) }
 {
     let order = found.module_order(alloc)?;
     let mut loader = TableLoader {
@@ -141,6 +147,7 @@ fn explain_link(
     sources: Sources<'_>,
 ) -> Result<Explanation, AllocError>
     requires { is_relative (path_view request.now.root.now) ≡ false }
+    ensures { IfOk result (ExplainsLink request.now.is_eager) }
 {
     match world_in(alloc, request, &found, sources) {
         Ok((world, texts)) => {
@@ -188,7 +195,9 @@ fn explain_world(
     world: &World,
     texts: Texts,
     unit: &TranslationUnit,
-) -> Result<Explanation, AllocError> {
+) -> Result<Explanation, AllocError>
+    ensures { IfOk result (TellsWhyAll world.now) }
+{
     let modules = modules_of(alloc, world)?;
     let held = held_in(alloc, world, &texts, options)?;
     let homes = homes_of(alloc, &held)?;

@@ -1,4 +1,5 @@
 //! What is told of the link of a bundle: texts, and lists of what they are the paths and names of.
+ghost use Rattle.wesl_explain_world.specs.Explained.{TellsNothing};
 
 use crate::world::Chain;
 use serde_json::Value;
@@ -28,7 +29,9 @@ pub struct Explanation {
 
 impl Explanation {
     /// Nothing is told. It takes no memory.
-    pub fn nothing(alloc: Global) -> Explanation {
+    pub fn nothing(alloc: Global) -> Explanation
+        ensures { TellsNothing result }
+    {
         Explanation {
             paths: Vec::new(alloc),
             names: Vec::new(alloc),

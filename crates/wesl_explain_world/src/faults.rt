@@ -1,5 +1,5 @@
 //! Why a bundle is refused.
-ghost use Rattle.std.specs.Prelude.{◌≡◌, false};
+ghost use Rattle.std.specs.Prelude.{◌≡◌, ◌<◌, ◌≤◌, false, vec_len, IfOk};
 ghost use Rattle.wesl_tree_names.specs.Path.{path_view, is_relative};
 
 use crate::explanation::Fault;
@@ -61,7 +61,9 @@ pub fn fault_of(alloc: Global, mut diagnostic: Diagnostic) -> Result<Fault, Allo
 }
 
 /// Adds a fault, unless it is told already.
-fn add(faults: &mut Vec<Fault>, fault: Fault) -> Result<(), AllocError> {
+fn add(faults: &mut Vec<Fault>, fault: Fault) -> Result<(), AllocError>
+    ensures { vec_len faults.old ≤ vec_len faults.new }
+{
     for told in faults.as_slice() {
         if told.value == fault.value {
             return Ok(());
@@ -86,7 +88,9 @@ fn add_conditions(
     path: &ModulePath,
     found: Vec<Diagnostic>,
     faults: &mut Vec<Fault>,
-) -> Result<(), AllocError> {
+) -> Result<(), AllocError>
+    ensures { vec_len faults.old ≤ vec_len faults.new }
+{
     for diagnostic in found {
         let mut placed = diagnostic;
         placed.module = Some(path.try_clone(alloc).ok().ok_or(AllocError)?);
@@ -101,7 +105,9 @@ fn add_module(
     sources: &mut Sources<'_>,
     path: &ModulePath,
     faults: &mut Vec<Fault>,
-) -> Result<(), AllocError> {
+) -> Result<(), AllocError>
+    ensures { vec_len faults.old ≤ vec_len faults.new }
+{
     if path.is_relative() {
         return Ok(());
     }
@@ -121,7 +127,9 @@ pub fn faults_of(
     alloc: Global,
     diagnostic: Diagnostic,
     mut sources: Sources<'_>,
-) -> Result<Vec<Fault>, AllocError> {
+) -> Result<Vec<Fault>, AllocError>
+    ensures { IfOk result (λ faults. 0 < vec_len faults) }
+{
     let mut faults = Vec::new(alloc);
     faults.push(fault_of(alloc, diagnostic)?)?;
     let asked = std::mem::replace(&mut sources.asked, Vec::new(alloc));

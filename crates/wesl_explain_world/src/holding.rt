@@ -1,6 +1,7 @@
 //! What is held in a link, and why.
-ghost use Rattle.std.specs.Prelude.{None, IfOk};
+ghost use Rattle.std.specs.Prelude.{◌≡◌, None, IfOk, OnOk, All};
 ghost use Rattle.wesl_explain_world.specs.Why.{TellsWhy, node_of};
+ghost use Rattle.wesl_explain_world.specs.Explained.{TellsWhyLoaded, TellsWhyHeld, AddsHeld};
 
 use crate::explanation::{HeldDeclaration, LoadedModule};
 use crate::texts::Texts;
@@ -22,7 +23,9 @@ fn loaded(alloc: Global, world: &World, path: PathId) -> Result<LoadedModule, Al
 }
 
 /// The modules that were loaded, with why.
-pub fn modules_of(alloc: Global, world: &World) -> Result<Vec<LoadedModule>, AllocError> {
+pub fn modules_of(alloc: Global, world: &World) -> Result<Vec<LoadedModule>, AllocError>
+    ensures { IfOk result (λ modules. All (TellsWhyLoaded world.now) modules.items) }
+{
     let mut modules = Vec::new(alloc);
     for path in &world.order {
         modules.push(loaded(alloc, world, *path)?)?;
@@ -71,7 +74,8 @@ fn told(
     path: PathId,
     name: Option<NameId>,
 ) -> Result<HeldDeclaration, AllocError>
-    ensures { IfOk result (λ h. TellsWhy world.now.reasons (node_of h.path h.name) h.chain.items) }
+    ensures named { IfOk result (λ h. (h.path ≡ path) × (h.name ≡ name)) }
+    ensures why { IfOk result (λ h. TellsWhy world.now.reasons (node_of h.path h.name) h.chain.items) }
 {
     let is_root = world.root() == Some(path);
     let printed = printed(alloc, texts, options, is_root, path, name)?;
@@ -92,7 +96,9 @@ fn add_held(
     options: Options,
     table: &Table,
     held: &mut Vec<HeldDeclaration>,
-) -> Result<(), AllocError> {
+) -> Result<(), AllocError>
+    ensures { OnOk result (AddsHeld world.now table.now held.old.items held.new.items) }
+{
     let path = table.path();
     for declaration in table.declarations() {
         let name = declaration.name();
@@ -109,7 +115,9 @@ pub fn held_in(
     world: &World,
     texts: &Texts,
     options: Options,
-) -> Result<Vec<HeldDeclaration>, AllocError> {
+) -> Result<Vec<HeldDeclaration>, AllocError>
+    ensures { IfOk result (λ held. All (TellsWhyHeld world.now) held.items) }
+{
     let mut held = Vec::new(alloc);
     for path in &world.order {
         if let Some(table) = world.table(*path) {

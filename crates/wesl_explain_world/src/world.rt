@@ -1,10 +1,10 @@
 //! A link over symbol tables, with why each thing is held in it.
-ghost use Rattle.std.specs.Prelude.{◌≡◌, ◌↔◌, Some, None, false, IfOk, IsTrue};
+ghost use Rattle.std.specs.Prelude.{◌≡◌, ◌↔◌, Some, None, false, IfOk, IfSome, IsTrue, Contains};
 ghost use Rattle.wesl_tree_names.specs.Path.{path_view, is_relative};
 ghost use Rattle.wesl_link_reach.specs.Keeping.{IsHeld};
 ghost use Rattle.wesl_link_reasons.specs.Found.{AreReasons};
 ghost use Rattle.wesl_link_reasons.specs.Reasons.{task_from};
-ghost use Rattle.wesl_explain_world.specs.Why.{HasItsReasons, TellsWhy, node_of};
+ghost use Rattle.wesl_explain_world.specs.Why.{HasItsReasons, IsLink, TellsWhy, node_of};
 
 use crate::loading::TableLoader;
 use std::alloc::{AllocError, Global};
@@ -70,7 +70,9 @@ impl World {
     }
 
     /// The table of the module at a path.
-    pub fn table(&self, path: PathId) -> Option<&Table> {
+    pub fn table(&self, path: PathId) -> Option<&Table>
+        ensures { IfSome result (λ t. Contains self.now.linked.tables t.now) }
+    {
         match keyed::value_at(&self.places, path) {
             Some(place) => self.linked.tables().get(place),
             None => None,
@@ -177,7 +179,8 @@ fn link_with_reasons(
     is_eager: bool,
     max_modules: usize,
 ) -> Result<(Linked, Reasons), Error>
-    ensures { IfOk result (λ found. AreReasons found.0.tables (task_from root.path kept.now is_eager) found.1) }
+    ensures linked { IfOk result (λ found. IsLink root (task_from root.path kept.now is_eager) found.0) }
+    ensures reasons { IfOk result (λ found. AreReasons found.0.tables (task_from root.path kept.now is_eager) found.1) }
 {
     let path = root.path();
     let kept_again = Vec::from_slice(alloc, kept)?;
