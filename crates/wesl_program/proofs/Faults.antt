@@ -31,7 +31,7 @@ use Rattle.wesl_tree_base.specs.declared.faults.ValidateError.{ValidateError}
 use Rattle.wesl_tree_base.specs.declared.faults.ValidateError.TheVariants as invalid
 use Rattle.wesl_program_bundle.specs.Builtins as said
 use Rattle.wesl_program_bundle.specs.Bundle.{Bundle}
-use Rattle.wesl_program.specs.Line.{memory, IsBundleOf, IsOfModules, IsRefusal}
+use Rattle.wesl_program.specs.Line.{memory, IsBundleOf, IsOfModules, IsRefusal, IsUnread}
 use Rattle.wesl_program.specs.Refused.{IsLinkFault}
 use Rattle.wesl_link_reach.specs.World.{Task}
 use Rattle.wesl_link_reach.specs.Faults as standing
@@ -208,4 +208,9 @@ found-fault b same u e (w, links, is) h = unit-fault b w u e links h
 -- a fault of the link of the bundle that bytes are
 pub bundle-refusal : (bytes : List ℕ) (b : Bundle) (e : error.Error) → IsBundleOf bytes b → IsLinkFault b e → IsRefusal bytes e
 bundle-refusal bytes b e is (inl h) = inl h
-bundle-refusal bytes b e is (inr h) = inr (inr (inr (is.0, b, is.1, is.2, h.0, h.1)))
+bundle-refusal bytes b e is (inr h) = inr (inr (b, is, h.0, h.1))
+
+-- bytes that are no bundle
+pub unread-refusal : (bytes : List ℕ) (e : error.Error) → IsUnread bytes e → IsRefusal bytes e
+unread-refusal bytes e (inl memory) = inl (ap fault_of memory)
+unread-refusal bytes e (inr no_bundle) = inr (inl no_bundle)

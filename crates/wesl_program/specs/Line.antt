@@ -77,16 +77,24 @@ IsNotJson bytes = IsUtf8 bytes → read bytes ≡ None
 abbrev pub IsOfModules : Fault → Type 0
 IsOfModules f = (f.named ≢ codes "NotJson") × (f.named ≢ codes "BadBundle")
 
--- a fault that stands in a link of the bundle, or in its linked unit
+-- a fault that stands in a link of the bundle or in its linked unit, or want of memory there
 abbrev pub TellsOfLink : Bundle → Fault → Type 0
 TellsOfLink b f = (e : error.Error) × RefusesBundle b e × (f ≡ fault_of e)
 
--- which fault the bytes may be refused with, want of memory aside
-abbrev pub MayRefuse : List ℕ → Fault → Type 0
-MayRefuse bytes f =
+-- the fault says why the bytes are no bundle: they are no JSON, or their value breaks the form of a bundle at the place
+abbrev pub IsNoBundle : List ℕ → Fault → Type 0
+IsNoBundle bytes f =
     ((f ≡ not_json) × IsNotJson bytes)
     ⊎ ((d : Data) × (place : Text) × IsJsonOf bytes d × (f ≡ bad_bundle place) × IsBrokenBundle d place)
-    ⊎ ((d : Data) × (b : Bundle) × IsJsonOf bytes d × (bundle_of d ≡ Some b) × IsOfModules f × TellsOfLink b f)
+
+-- memory was refused, or the error tells such a fault
+abbrev pub IsUnread : List ℕ → error.Error → Type 0
+IsUnread bytes e = (e ≡ error.Memory) ⊎ IsNoBundle bytes (fault_of e)
+
+-- which fault the bytes may be refused with: why they are no bundle, or else one of the link of the bundle that they are, or
+-- want of memory there
+abbrev pub MayRefuse : List ℕ → Fault → Type 0
+MayRefuse bytes f = IsNoBundle bytes f ⊎ ((b : Bundle) × IsBundleOf bytes b × IsOfModules f × TellsOfLink b f)
 
 -- the error is want of memory, or one that the bytes may be refused with
 abbrev pub IsRefusal : List ℕ → error.Error → Type 0
@@ -100,7 +108,7 @@ TellsFault is_placed f line = (line ≡ fault_line memory) ⊎ ((p : Where) × M
 abbrev pub AsksForPlaces : List ℕ → Type 0
 AsksForPlaces bytes = (b : Bundle) × IsBundleOf bytes b × (b.options.spans ≡ true)
 
--- such a bundle has its faults told with their places, as far as a fault has one; for others no place is told
+-- of such a bundle a fault may be told with its place, as far as it has one; of others it is told with none
 abbrev pub MayTell : List ℕ → Fault → Where → Type 0
 MayTell bytes f p = (p ≡ nowhere) ⊎ (AsksForPlaces bytes × IsPlaceOf f p)
 

@@ -20,15 +20,16 @@ abbrev pub IsValidUnder : Option said.Builtins → UnitView → Type 0
 IsValidUnder None u = Unit {0}
 IsValidUnder (Some b) u = IsValidWgsl u (built_in b)
 
--- validation refuses the unit with this error; where a bundle names nothing built in, it refuses none
+-- validation may refuse the unit with this error, which may be want of memory; where a bundle names nothing built in, it
+-- refuses none
 abbrev pub RefusesUnit : Option said.Builtins → UnitView → error.Error → Type 0
 RefusesUnit None u e = ⊥
 RefusesUnit (Some b) u e = (d : Diagnostic) × RefusesWgsl u (built_in b) d × (d.error ≡ e)
 
--- the unit is one to which the bundle links, and validation refuses it
+-- the bundle links to a unit that validation may refuse with this error
 abbrev pub IsUnitRefused : Bundle → error.Error → Type 0
 IsUnitRefused b e = (w : List Module) × (u : UnitView) × LinksTo b w u × RefusesUnit b.builtins u e
 
--- the link of the bundle is refused with the error, or else its linked unit is
+-- the link of the bundle may be refused with the error, or else its linked unit may
 abbrev pub RefusesBundle : Bundle → error.Error → Type 0
 RefusesBundle b e = IsLinkRefused b e ⊎ IsUnitRefused b e

@@ -2,7 +2,7 @@
 ghost use Rattle.std.specs.Prelude.{◌≡◌, ◌||◌, IfOk, OnOk, true, false, not, is_err};
 ghost use Rattle.std.specs.Io.KnownBytes.{Appends, Consumes, IsAtEnd, ReadConsumes, WriteAppends};
 ghost use Rattle.std.specs.Io.{ReadsAtMost, WritesAtMost};
-ghost use Rattle.wesl_program.specs.Streams.{AppendsBeginning, IsLoanOf, IsSameLoan, TookNone, has_failed, inner, is_input};
+ghost use Rattle.wesl_program.specs.Streams.{AppendsBeginning, IsLoanOf, IsSameLoan, has_failed, inner, is_input, took_none};
 
 use std::alloc::Global;
 use std::io::{self, Read, Write};
@@ -58,7 +58,7 @@ impl<W: Write> NotedStream<'_, W> {
     fn write(&mut self, bytes: &[u8]) -> io::Result<usize>
         ensures bound { WritesAtMost result bytes.now }
         ensures bytes { WriteAppends (W.contents (inner self.old)) (W.contents (inner self.new)) result bytes.now }
-        ensures noted { has_failed self.new ≡ (has_failed self.old || TookNone result) }
+        ensures noted { has_failed self.new ≡ (has_failed self.old || took_none result) }
         ensures same { IsSameLoan self.old self.new }
     {
         let result = self.inner.write(bytes);
