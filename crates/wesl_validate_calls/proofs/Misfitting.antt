@@ -13,13 +13,13 @@ use Rattle.wesl_validate_rules.specs.Faults.{name_of, Counts, IsMisfit, IsWgslFa
 use Rattle.wesl_validate_calls.specs.Misfits.{MissesIn}
 use Rattle.wesl_validate_calls.specs.declared.misfit.Misfit.{Misfit}
 use Rattle.wesl_validate_calls.specs.declared.misfit.Misfit.TheVariants as misfit
-use Rattle.wesl_validate_calls.specs.CallFaults.{TellsMisfit}
+use Rattle.wesl_validate_calls.specs.CallFaults.{TellsCall, TellsMisfit}
 
 module _ (u : UnitView) (b : BuiltinNames) (within : Option Text) (j : ℕ) (round : name_of u j ≡ within) where
   misfit_of : (c : CallOf ℕ) → Contains (calls_of u j) c → (Fits u b c → ⊥) → IsMisfit u b within c
   misfit_of c there none = record { declaration = j; there = there; fits_none = none; round = round }
 
-  pub is_fault : (m : Misfit) (e : ValidateError) → MissesIn u b j m → TellsMisfit u.names m e → IsWgslFault u b within e
+  pub is_fault : (m : Misfit) (e : ValidateError) → MissesIn u b j m → TellsMisfit u.names m e → TellsCall u b within e
   is_fault (misfit.ParamCount i k g) (fault.ParamCount n x y) (c, there, (none, ends, counts, got)) (name, expected, given) = record {
     callee = c.callee;
     misfit = subst (λ a. IsMisfit u b within (record { callee = c.callee; arguments = a })) (got ∙ sym given) (misfit_of c there none);
@@ -45,6 +45,14 @@ module _ (u : UnitView) (b : BuiltinNames) (within : Option Text) (j : ℕ) (rou
   is_fault (misfit.NotCallable i) (fault.ParamCount n x y) s t = absurd t
   is_fault (misfit.NotCallable i) (fault.Duplicate n) s t = absurd t
   is_fault (misfit.NotCallable i) (fault.Cycle n via) s t = absurd t
+
+-- the fault of a call is one of WGSL
+pub call_of_wgsl : (u : UnitView) (b : BuiltinNames) (within : Option Text) (e : ValidateError) → TellsCall u b within e → IsWgslFault u b within e
+call_of_wgsl u b within (fault.ParamCount n expected got) h = h
+call_of_wgsl u b within (fault.NotCallable n) h = h
+call_of_wgsl u b within (fault.UndefinedSymbol n) h = absurd h
+call_of_wgsl u b within (fault.Duplicate n) h = absurd h
+call_of_wgsl u b within (fault.Cycle n via) h = absurd h
 
 -- what is so of what is there
 pub some_of : {X : Type 0} (r : Option X) (P : X → Type 0) (x : X) → r ≡ Some x → IfSome r P → P x

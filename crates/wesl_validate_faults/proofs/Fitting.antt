@@ -5,14 +5,13 @@ use Rattle.std.specs.List.{AllPairs, All, Contains}
 use Rattle.std.proofs.lemmas.Bool.{cases_lt}
 use Rattle.std.proofs.lemmas.List.Elements.{All-append, All-contains_itself, All-head, All-tail, All-weaker, Contains-append_cases, Contains-append_left, Contains-append_right}
 use Rattle.std.proofs.lemmas.List.Kept.{AllPairs-cons}
-use Rattle.wesl_tree_names.specs.Path.{Text}
 use Rattle.wesl_tree_syntax.specs.Tree.{Tree, end, trees}
 use Rattle.wesl_tree_syntax.specs.Unit.{UnitView}
 use Rattle.wesl_scope_strip.specs.Declarations.{count}
 use Rattle.wesl_validate_builtins.specs.Builtins.{BuiltinNames}
 use Rattle.wesl_validate_rules.proofs.Finding.{contains_here, contains_later, contains_cases, contains_none, from_mapped, to_mapped}
 use Rattle.wesl_validate_rules.specs.Calls.{CallOf, is_plain_alias, calls_in}
-use Rattle.wesl_validate_rules.specs.Faults.{name_of, Counts, IsMisfit, IsMiscounted, IsNotCallable}
+use Rattle.wesl_validate_rules.specs.Faults.{name_of, Counts, IsMisfit}
 use Rattle.wesl_validate_rules.specs.Valid.{spelling, calls_of, AliasesTo, IsEnd, Fits, IsValidWgsl}
 use Rattle.wesl_validate_calls.specs.Misfits.{Misses, Passes}
 use Rattle.wesl_validate_calls.specs.Verdicts.{first_count, IsVerdict, AreMisfitsAmong, misfit_in, numbered, calls_below, all_calls}
@@ -20,7 +19,7 @@ use Rattle.wesl_validate_calls.specs.declared.misfit.Misfit.{Misfit}
 use Rattle.wesl_validate_calls.specs.declared.misfit.Misfit.TheVariants as misfit
 use Rattle.wesl_validate_faults.specs.Calls.{misfit_told, AreCallFindings, AreFindingsWgsl}
 use Rattle.wesl_validate_faults.specs.Findings.{Finding, undefined, duplicate, cycle, miscounted, not_callable, IsFound, IsFoundWgsl}
-use Rattle.wesl_validate_faults.specs.Laws.{IsCauseToldWgsl, ListsWhatStandsWgsl, ListsEachCauseWgsl, ListsEachOnceWgsl, IsOneListWgsl}
+use Rattle.wesl_validate_faults.specs.Laws.{IsCauseTold, IsMisfitTold, ListsWhatStandsWgsl, ListsEachCauseWgsl, ListsEachOnceWgsl, IsOneListWgsl}
 use Rattle.wesl_validate_faults.specs.Listed.{each_once, AreFindings}
 use Rattle.wesl_validate_faults.proofs.Collecting.{of_once, once_apart, to_once}
 use Rattle.wesl_validate_faults.proofs.Standing.{lists_what_stands, lists_each_cause, lists_each_once, is_one_list, none_is_valid, found_refutes, empty}
@@ -171,27 +170,12 @@ module _ (u : UnitView) where
           let s = to_misfits (all_calls u) are.misfits are.are_misfits (j, c) (to_below (count u) j c (inside j c there) there) in
           (s.0, s.1, λ m e. subst (λ xs. Contains xs (misfit_told u j m)) (sym are.listed) (to_once (map told are.misfits) (misfit_told u j m) (to_mapped told are.misfits (j, m) (s.2 m e))))
 
-      miscounted_told : (d : Option Text) (n : Text) (x g : ℕ) → IsMiscounted u b d n x g → (first : Text) × (expected : ℕ) × Contains calls (miscounted d first expected g)
-      miscounted_told d n x g h =
-          let c : CallOf ℕ = record { callee = h.callee; arguments = g } in
-          let s = judged h.misfit.declaration c h.misfit.there in by s.0 s.1 s.2
+      misfit_is_told : (j e : ℕ) (c : CallOf ℕ) → Contains (calls_of u j) c → AliasesTo u c.callee e → IsEnd u e → (Fits u b c → ⊥) → IsMisfitTold u b calls j c
+      misfit_is_told j e c there to is_end none = let s = judged j c there in by s.0 s.1 s.2
         where
-          by : (v : Option Misfit) → IsVerdict u b (record { callee = h.callee; arguments = g }) v → ((m : Misfit) → v ≡ Some m → Contains calls (misfit_told u h.misfit.declaration m)) → (first : Text) × (expected : ℕ) × Contains calls (miscounted d first expected g)
-          by None is r = absurd (h.misfit.fits_none (is h.last h.ends (counts_end h.last x h.counts)))
-          by (Some (misfit.ParamCount e k i)) ((none, to, counts, same), first) r = (
-            spelling u e,
-            k,
-            subst (λ a. Contains calls (miscounted d (spelling u e) k a)) (sym same) (subst (λ o. Contains calls (miscounted o (spelling u e) k i)) h.misfit.round (r (misfit.ParamCount e k i) refl)),
-          )
-          by (Some (misfit.NotCallable e)) ((none, to, is_end, others), first) r = absurd (others h.last x h.ends h.counts)
-
-      not_callable_told : (d : Option Text) (n : Text) → IsNotCallable u b d n → (first : Text) × Contains calls (not_callable d first)
-      not_callable_told d n h = let s = judged h.misfit.declaration h.call h.misfit.there in by s.0 s.1 s.2
-        where
-          by : (v : Option Misfit) → IsVerdict u b h.call v → ((m : Misfit) → v ≡ Some m → Contains calls (misfit_told u h.misfit.declaration m)) → (first : Text) × Contains calls (not_callable d first)
-          by None is r = absurd (h.misfit.fits_none (is h.last h.ends h.is_end))
-          by (Some (misfit.ParamCount e k i)) ((none, to, counts, same), first) r = absurd (h.counts_none e k to counts)
-          by (Some (misfit.NotCallable e)) (misses, first) r = (spelling u e, subst (λ o. Contains calls (not_callable o (spelling u e))) h.misfit.round (r (misfit.NotCallable e) refl))
+          by : (v : Option Misfit) → IsVerdict u b c v → ((m : Misfit) → v ≡ Some m → Contains calls (misfit_told u j m)) → IsMisfitTold u b calls j c
+          by None is r = absurd (none (is e to is_end))
+          by (Some m) is r = (m, is.0, is.1, r m refl)
 
       no_misfit : calls ≡ [] → (j e : ℕ) (c : CallOf ℕ) → Contains (calls_of u j) c → AliasesTo u c.callee e → IsEnd u e → Fits u b c
       no_misfit empty j e c there to is_end = let s = judged j c there in by s.0 s.1 s.2
@@ -258,7 +242,7 @@ lists_what_stands_wgsl u b fs a f c = by (Contains-append_cases a.names a.calls 
     by (inr d) = calls_stand u b a.calls a.are_calls f d
 
 pub lists_each_cause_wgsl : ListsEachCauseWgsl
-lists_each_cause_wgsl u b fs a f h = by f h
+lists_each_cause_wgsl u b fs a = record { names = names_told; calls = calls_told }
   where
     left : (g : Finding) → Contains a.names g → Contains fs g
     left g c = subst (λ xs. Contains xs g) (sym a.listed) (Contains-append_left a.names a.calls g c)
@@ -266,12 +250,17 @@ lists_each_cause_wgsl u b fs a f h = by f h
     right : (g : Finding) → Contains a.calls g → Contains fs g
     right g c = subst (λ xs. Contains xs g) (sym a.listed) (Contains-append_right a.names a.calls g c)
 
-    by : (g : Finding) → IsFoundWgsl u b g → IsCauseToldWgsl fs g
-    by (undefined d n) h = left (undefined d n) (lists_each_cause u b a.names a.are_names (undefined d n) h)
-    by (duplicate n) h = left (duplicate n) (lists_each_cause u b a.names a.are_names (duplicate n) h)
-    by (cycle n v) h = let s = lists_each_cause u b a.names a.are_names (cycle n v) h in (s.0, left (cycle n s.0) s.1)
-    by (miscounted d n x g) h = let s = miscounted_told u b a.calls a.are_calls d n x g h in (s.0, s.1, right (miscounted d s.0 s.1 g) s.2)
-    by (not_callable d n) h = let s = not_callable_told u b a.calls a.are_calls d n h in (s.0, right (not_callable d s.0) s.1)
+    names_told : (g : Finding) → IsFound u b g → IsCauseTold fs g
+    names_told (undefined d n) h = left (undefined d n) (lists_each_cause u b a.names a.are_names (undefined d n) h)
+    names_told (duplicate n) h = left (duplicate n) (lists_each_cause u b a.names a.are_names (duplicate n) h)
+    names_told (cycle n v) h = let s = lists_each_cause u b a.names a.are_names (cycle n v) h in (s.0, left (cycle n s.0) s.1)
+    names_told (miscounted d n x g) h = absurd h
+    names_told (not_callable d n) h = absurd h
+
+    calls_told : (j e : ℕ) (c : CallOf ℕ) → Contains (calls_of u j) c → AliasesTo u c.callee e → IsEnd u e → (Fits u b c → ⊥) → IsMisfitTold u b fs j c
+    calls_told j e c there to is_end none =
+        let s = misfit_is_told u b a.calls a.are_calls j e c there to is_end none in
+        (s.0, s.1, s.2, right (misfit_told u j s.0) s.3)
 
 pub lists_each_once_wgsl : ListsEachOnceWgsl
 lists_each_once_wgsl u b fs a =

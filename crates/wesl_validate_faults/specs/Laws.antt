@@ -6,8 +6,13 @@ use Rattle.wesl_tree_names.specs.declared.errors.Diagnostic.{Diagnostic}
 use Rattle.wesl_tree_syntax.specs.Unit.{UnitView}
 use Rattle.wesl_validate_builtins.specs.Builtins.{BuiltinNames}
 use Rattle.wesl_validate_rules.specs.Faults.{RefusesWesl, RefusesWgsl}
-use Rattle.wesl_validate_faults.specs.Calls.{AreFindingsWgsl}
-use Rattle.wesl_validate_faults.specs.Findings.{Finding, cycle, miscounted, not_callable, IsFound, IsFoundWgsl}
+use Rattle.wesl_validate_rules.specs.Calls.{CallOf}
+use Rattle.wesl_validate_rules.specs.Valid.{calls_of, AliasesTo, IsEnd, Fits}
+use Rattle.wesl_validate_calls.specs.Misfits.{Misses}
+use Rattle.wesl_validate_calls.specs.Verdicts.{IsFirstEnd}
+use Rattle.wesl_validate_calls.specs.declared.misfit.Misfit.{Misfit}
+use Rattle.wesl_validate_faults.specs.Calls.{misfit_told, AreFindingsWgsl}
+use Rattle.wesl_validate_faults.specs.Findings.{Finding, cycle, IsFound, IsFoundWgsl}
 use Rattle.wesl_validate_faults.specs.Listed.{AreFindings}
 use Rattle.wesl_validate_faults.specs.Telling.{TellsFinding}
 
@@ -37,11 +42,16 @@ abbrev pub IsOneList : Type 0
 IsOneList = (u : UnitView) (b : BuiltinNames) (fs gs : List Finding) → AreFindings u b fs → AreFindings u b gs → fs ≡ gs
 
 -- ---- the same of `validate_wgsl`
--- of a call that fits nothing a misfit is told, by the first name where its aliases end
-abbrev pub IsCauseToldWgsl : List Finding → Finding → Type 0
-IsCauseToldWgsl fs (miscounted d n x g) = (first : Text) × (expected : ℕ) × Contains fs (miscounted d first expected g)
-IsCauseToldWgsl fs (not_callable d n) = (first : Text) × Contains fs (not_callable d first)
-IsCauseToldWgsl fs f = IsCauseTold fs f
+
+-- of a call in declaration j its own misfit is told, that of the first name where its aliases end
+abbrev pub IsMisfitTold : UnitView → BuiltinNames → List Finding → ℕ → CallOf ℕ → Type 0
+IsMisfitTold u b fs j c = (m : Misfit) × Misses u b c m × IsFirstEnd u c.callee m × Contains fs (misfit_told u j m)
+
+-- of whatever stands in the module the cause is told: of what `validate_wesl` may tell as above, and of each call that fits
+-- nothing, and whose aliases end somewhere, its own misfit
+pub record TellsEachCause (u : UnitView) (b : BuiltinNames) (fs : List Finding) : Type 0 where
+  pub names : (f : Finding) → IsFound u b f → IsCauseTold fs f
+  pub calls : (j e : ℕ) (c : CallOf ℕ) → Contains (calls_of u j) c → AliasesTo u c.callee e → IsEnd u e → (Fits u b c → ⊥) → IsMisfitTold u b fs j c
 
 abbrev pub ListsWhatStandsWgsl : Type 0
 ListsWhatStandsWgsl = (u : UnitView) (b : BuiltinNames) (fs : List Finding) → AreFindingsWgsl u b fs → (f : Finding) → Contains fs f → IsFoundWgsl u b f
@@ -50,7 +60,7 @@ abbrev pub TellsRefusalsWgsl : Type 0
 TellsRefusalsWgsl = (u : UnitView) (b : BuiltinNames) (f : Finding) (d : Diagnostic) → IsFoundWgsl u b f → TellsFinding f d → RefusesWgsl u b d
 
 abbrev pub ListsEachCauseWgsl : Type 0
-ListsEachCauseWgsl = (u : UnitView) (b : BuiltinNames) (fs : List Finding) → AreFindingsWgsl u b fs → (f : Finding) → IsFoundWgsl u b f → IsCauseToldWgsl fs f
+ListsEachCauseWgsl = (u : UnitView) (b : BuiltinNames) (fs : List Finding) → AreFindingsWgsl u b fs → TellsEachCause u b fs
 
 abbrev pub ListsEachOnceWgsl : Type 0
 ListsEachOnceWgsl = (u : UnitView) (b : BuiltinNames) (fs : List Finding) → AreFindingsWgsl u b fs → AllPairs (λ f g. f ≢ g) fs

@@ -18,8 +18,8 @@ pub fn law_of_lists()
     ensures once { ListsEachOnce }
 {}
 
-/// The same of what `faults_wgsl` tells: all of it stands and is a refusal of `validate_wgsl`, and of whatever stands the
-/// cause is listed.
+/// The same of what `faults_wgsl` tells: all of it stands and is a refusal of `validate_wgsl`; of what `validate_wesl` may
+/// tell the cause is listed, and of each call that fits nothing its own misfit.
 pub fn law_of_calls()
     ensures stands { ListsWhatStandsWgsl }
     ensures refuses { TellsRefusalsWgsl }
