@@ -1,19 +1,14 @@
 -- What features leave of a unit; without features no condition is judged.
-use Rattle.std.specs.Prelude.{◌≡◌, ◌⊎◌, ℕ, List, Option, Some, None, Result, Ok, Err}
+use Rattle.std.specs.Prelude.{◌≡◌, ◌⊎◌, Option, Some, None, Result, Ok, Err}
 use Rattle.wesl_tree_names.specs.Errors.{IsRefusedFor}
-use Rattle.wesl_tree_names.specs.Path.{Text}
 use Rattle.wesl_tree_names.specs.declared.errors.Error as error
 use Rattle.wesl_tree_names.specs.declared.errors.ResolveError.{ResolveError}
 use Rattle.wesl_tree_syntax.specs.Unit.{UnitView}
 use Rattle.wesl_tree.specs.Translation.{unit_view}
 use Rattle.wesl_tree.specs.declared.unit.TranslationUnit.{TranslationUnit}
-use Rattle.wesl_cond_features.specs.Features.{Replies, answer_to, by_number}
+use Rattle.wesl_cond_features.specs.Features.{answer_to}
 use Rattle.wesl_cond_features.specs.declared.features.Features.{Features}
 use Rattle.wesl_cond.specs.Units.{left_of, IsFaultlessUnit, RefusesUnit}
-
--- what features answer about the names of a table, by number
-abbrev pub answers : List Text → Features → Replies ℕ
-answers names features = by_number names (answer_to features)
 
 -- no fault of a condition stands, and the second unit is what is left of the first
 abbrev pub IsLeft : Option Features → UnitView → UnitView → Type 0

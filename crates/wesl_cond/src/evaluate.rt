@@ -5,7 +5,7 @@ ghost use Rattle.wesl_cond_chains.specs.FormulaFaults.{formula_faults};
 ghost use Rattle.wesl_cond_features.specs.Features.{known};
 ghost use Rattle.wesl_cond_chains.specs.Formulas.{form, written};
 ghost use Rattle.wesl_cond_chains.specs.FormulaResidual.{residual};
-ghost use Rattle.wesl_cond.specs.Conditioned.{answers};
+ghost use Rattle.wesl_cond_chains.specs.Nodes.{replies};
 ghost use Rattle.wesl_tree_names.specs.declared.errors.Diagnostic.{out-Diagnostic};
 ghost use Rattle.wesl_tree_syntax.specs.View.{expression_view};
 
@@ -27,9 +27,9 @@ pub fn eval_attr(
     expression: &ExpressionNode,
     features: &Features,
 ) -> Result<Expression, Diagnostic>
-    ensures left { IfOk result (λ left. expression_view left ≡ written (residual (known (answers names.now features.now)) (form (expression_view expression.now.node)))) }
-    ensures faultless { IfOk result (λ _. formula_faults (answers names.now features.now) (form (expression_view expression.now.node)) ≡ []) }
-    ensures refused { IfErr result (λ told. IsRefused names.now (formula_faults (answers names.now features.now) (form (expression_view expression.now.node))) (out-Diagnostic told).error) }
+    ensures left { IfOk result (λ left. expression_view left ≡ written (residual (known (replies names.now features.now)) (form (expression_view expression.now.node)))) }
+    ensures faultless { IfOk result (λ _. formula_faults (replies names.now features.now) (form (expression_view expression.now.node)) ≡ []) }
+    ensures refused { IfErr result (λ told. IsRefused names.now (formula_faults (replies names.now features.now) (form (expression_view expression.now.node))) (out-Diagnostic told).error) }
 {
     check_formula(alloc, expression, names, features)?;
     let mut copying = Copying::of(alloc);

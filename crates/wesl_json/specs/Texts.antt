@@ -10,7 +10,8 @@ use Rattle.wesl_tree_names.specs.declared.errors.Error as error
 abbrev pub IsNoJson : Text → error.Error → Type 0
 IsNoJson text e = (e ≡ error.Memory) ⊎ (e ≡ error.NotJson) × (read text ≡ None)
 
--- the text with no space, of a value that has no float; where it is read, it is read as the value
+-- where no number of the value is a float, the text is the one with no space, with the members of objects in their order; and
+-- of any value, where the text is read, it is read as the value
 pub record IsTextOf (d : Data) (text : Text) : Type 0 where
   pub compact : has_float d ≡ false → text ≡ compact_text d
   pub read_as : (e : Data) → read text ≡ Some e → e ≡ d

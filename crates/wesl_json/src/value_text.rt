@@ -48,7 +48,8 @@ pub fn borrowed_of_text<'a>(
     }
 }
 
-/// The text of a value, with no space, and with the members of each object in the order of their keys' bytes.
+/// The text of a value. Where no number of it is a float, it has no space, and the members of each object in the order of
+/// their keys' bytes; of a value with a float neither is promised.
 ///
 /// Where it is read again, it is read as the value; it is read where the value nests at most 127 deep. Refused for want
 /// of memory alone.

@@ -20,6 +20,10 @@ RecordsIfGiven gives lacks shows path old new =
     ((text : Text) × gives text × Records shows path text old new)
     ⊎ ((e : resolve_error.ResolveError) × lacks e × (e ≡ resolve_error.Memory → ⊥) × SameSources old new)
 
+-- the same of a resolver that is asked for the source of a module
+abbrev pub RecordsAsked : {R : Type 0} → Resolver.Ghosts R → R → Path → Sources → Sources → Type 0
+RecordsAsked g resolver path old new = RecordsIfGiven (g.source resolver path) (g.lacks resolver path) (g.shown resolver path) path old new
+
 -- a question to the resolver leaves the mangler, the root's path, the names and the default source as they were
 pub record IsAskedAlone {M : Type 0} (mangler mangler' : M) (root root' : ModulePath) (old new : BasicSourceMap) : Type 0 where
   pub names : mangler' ≡ mangler
@@ -30,10 +34,6 @@ pub record IsAskedAlone {M : Type 0} (mangler mangler' : M) (root root' : Module
 -- a mangler that keeps a record has written the item for the name
 abbrev pub HasNamed : Bool → Text → Item → Items → Items → Type 0
 HasNamed writes name item old new = (other : Text) → new other ≡ written_if writes name item old other
-
--- the same of a resolver that is asked for the source of a module
-abbrev pub RecordsAsked : {R : Type 0} → Resolver.Ghosts R → R → Path → Sources → Sources → Type 0
-RecordsAsked g resolver path old new = RecordsIfGiven (g.source resolver path) (g.lacks resolver path) (g.shown resolver path) path old new
 
 -- the same of a mangler that is asked for the name of an item
 abbrev pub HasNamedItem : {M : Type 0} → Mangler.Ghosts M → M → M → Item → Type 0

@@ -29,6 +29,7 @@ module _ (u : UnitView) where
   abbrev pub calls_of : ℕ → List (CallOf ℕ)
   calls_of j = calls_in (declaration_at j)
 
+  -- declaration j declares the number m
   abbrev pub Declares : ℕ → ℕ → Type 0
   Declares j m = Contains (declared_in u j) m
 
@@ -64,6 +65,7 @@ module _ (u : UnitView) where
   IsAcyclic = (a : ℕ) → Reaches a a → ⊥
 
 module _ (u : UnitView) (builtins : BuiltinNames) where
+  -- whether a binder of the module has the number, or its name is built in or the underscore
   abbrev pub is_known : ℕ → Bool
   is_known m = is_bound u m || (is_among (spelling u m) builtins.names || bytes_eq (spelling u m) underscore)
 
@@ -79,6 +81,7 @@ module _ (u : UnitView) (builtins : BuiltinNames) where
   abbrev pub Fits : CallOf ℕ → Type 0
   Fits c = (e : ℕ) × AliasesTo u c.callee e × Accepts c.arguments e
 
+  -- each reference of the module is defined
   abbrev pub IsDefined : Type 0
   IsDefined = (o : Occurrence ℕ) → Contains (all u) o → is_undefined o ≡ false
 
@@ -86,11 +89,13 @@ module _ (u : UnitView) (builtins : BuiltinNames) where
   abbrev pub IsFitting : Type 0
   IsFitting = (j e : ℕ) (c : CallOf ℕ) → Contains (calls_of u j) c → AliasesTo u c.callee e → IsEnd u e → Fits c
 
+  -- valid in WESL: names are defined and distinct, and no declaration reaches itself
   pub record IsValidWesl : Type 0 where
     pub defined : IsDefined
     pub distinct : AreDistinct u
     pub acyclic : IsAcyclic u
 
+  -- valid in WGSL: valid in WESL, and calls fit
   pub record IsValidWgsl : Type 0 where
     pub wesl : IsValidWesl
     pub fitting : IsFitting
