@@ -1,6 +1,7 @@
 //! What is written, and how the program ends.
-ghost use Rattle.std.specs.Prelude.{string_bytes};
+ghost use Rattle.std.specs.Prelude.{string_bytes, IfOk};
 ghost use Rattle.wesl_explain.specs.Ends.{Ends};
+ghost use Rattle.wesl_explain.specs.Explained.{IsToldOf};
 
 use crate::as_json::json_of;
 use crate::text::text_of;
@@ -45,7 +46,9 @@ pub struct Told {
 }
 
 /// What is told of the bundle that the bytes are, as text or as JSON.
-pub fn told_of(alloc: Global, bytes: &[u8], is_json: bool) -> Result<Told, AllocError> {
+pub fn told_of(alloc: Global, bytes: &[u8], is_json: bool) -> Result<Told, AllocError>
+    ensures { IfOk result (IsToldOf bytes.now) }
+{
     let explanation = explained(alloc, bytes)?;
     let text = form_of(alloc, &explanation, is_json)?;
     Ok(Told {
