@@ -1,4 +1,4 @@
--- Which keys an object may have, as they are judged before a member of it is read.
+-- What an error tells of an object whose keys are judged before a member of it is read.
 use Rattle.std.specs.Prelude.{◌≡◌, List, Bool, true, codes}
 use Rattle.serde_json.specs.Data.{Data}
 use Rattle.wesl_tree_names.specs.Path.{Text}
