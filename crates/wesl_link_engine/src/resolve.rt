@@ -206,8 +206,9 @@ fn reach_modules<R: Resolver, S: Source<R>>(
 /// `resolver` hands out every module but the root, and means afterwards what it meant; no more than `max_modules` are
 /// loaded, the root counted. Refused where binders of one name with different targets are alive together, where a name stands
 /// for two things where it is used or where a look-up comes to it, where a module with such a name has more than 16 flags,
-/// where the resolver refuses a path, where a look-up finds nothing or nothing that it may see, where there are more modules than may be, and for want
-/// of memory. The diagnostic tells the module that has the two targets, or that lacks the name or hides it.
+/// where the resolver refuses a path, where a look-up finds nothing or nothing that it may see, where there are more modules
+/// than may be, and for want of memory. The diagnostic tells the module that has the two targets, or that lacks the name or
+/// hides it.
 pub fn link_root<R: Resolver>(
     alloc: Global,
     request: &LinkRequest<'_>,

@@ -59,7 +59,7 @@ module _ (s : Scope Path Text) where
     own_as b (inr j) = let (q, m) = all_aim y ys one_y b j in ap₂ (split.is_own_split texts s) (path ∙ q) (item ∙ m)
 
     end_alike : split.leads_on texts s x ≡ false → split.leads_on texts s y ≡ false → EndAlike s (x ∷ xs) (y ∷ ys)
-    end_alike f g = record { one = one_target; ends = by (split.is_own_split texts s x.path x.item) refl }
+    end_alike f g = record { some = ((x, (0, omega arith, refl)), (y, (0, omega arith, refl))); one = one_target; ends = by (split.is_own_split texts s x.path x.item) refl }
       where
         declared : (d : Bool) → (not d && true) ≡ false → d ≡ true
         declared true e = refl

@@ -55,22 +55,24 @@ AimsAsEach =
     → (b : Binder Path Text) → Contains bs b → aims own bs p ≡ module_in_place p b ∷ []
 
 module _ (s : Scope Path Text) (bs cs : List (Binder Path Text)) where
-  -- these binders of a name aim at one thing, the same for both, and it ends there: a declaration of the name is among them, or
-  -- what they aim at is no split name of the module
+  -- there are binders of the name in both, all aim at one thing, and it ends there: a declaration of the name is among those of
+  -- each, or what they aim at is no split name of the module
   pub record EndAlike : Type 0 where
+    pub some : ((b : Binder Path Text) × Contains bs b) × ((c : Binder Path Text) × Contains cs c)
     pub one : (b c : Binder Path Text) → Contains bs b → Contains cs c → (b.path ≡ c.path) × (b.item ≡ c.item)
     pub ends :
         ((list_any (λ b. b.declares) bs ≡ true) × (list_any (λ c. c.declares) cs ≡ true))
         ⊎ ((b : Binder Path Text) → Contains bs b ⊎ Contains cs b → split.is_own_split texts s b.path b.item ≡ false)
 
-  -- who sees these binders of a name finds what one finds who sees those
+  -- who sees these binders of a name finds what one finds who sees those: they are the same, or both have two targets, or both
+  -- end alike
   abbrev pub AnswerAlike : Type 0
   AnswerAlike =
       (bs ≡ cs)
       ⊎ (((split.has_two_targets texts bs ≡ true) × (split.has_two_targets texts cs ≡ true))
       ⊎ EndAlike)
 
--- an import of a split name of its own module sees it from where it asks as from where it stands
+-- what an import of a split name of its own module sees of that from where it asks, and from where it stands, answers alike
 abbrev pub AsksAsItself : Type 0
 AsksAsItself =
     (s : Scope Path Text) (b : Binder Path Text) → split.is_own_split texts s b.path b.item ≡ true

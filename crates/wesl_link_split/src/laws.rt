@@ -19,8 +19,8 @@ pub fn law_of_equals()
     ensures paths { AimsAsEach }
 {}
 
-/// Of several imports of a split name of their own module one may ask for all: a look-up of that name from where an import asks
-/// is answered as one from where it stands.
+/// Of several imports of a split name of their own module one may ask for all: the binders of that name that are seen from where
+/// an import asks answer alike with those that are seen from where it stands.
 pub fn law_of_askers()
     ensures { AsksAsItself }
 {}
