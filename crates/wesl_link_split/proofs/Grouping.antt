@@ -217,15 +217,16 @@ none_named bs ns gs h n none = filter_none (λ c. same_id n c.bound) bs (λ c d.
     by c d (inr f) = f
     by c d (inl t) = absurd (let l : list_any (same_id n) ns ≡ true = subst (λ m. list_any (same_id m) ns ≡ true) (sym (id_is n c.bound t)) (h.all c d) in let z : ⊥ = cc in z)
 
+-- what stands below the length of a list
+pub some_at : {X : Type 0} (xs : List X) (i : ℕ) → i < length xs → (x : X) × (slice_get xs i ≡ Some x)
+some_at [] i l = absurd (omega (arith, l))
+some_at (x ∷ xs) zero l = (x, refl)
+some_at (x ∷ xs) (suc i) l = some_at xs i (omega (arith, l))
+
 -- some name has two targets exactly where some group does
 module _ (bs : List Ours) (ns : List NameId) (gs : List Group) (h : AreGrouped bs ns gs) where
   abbrev group_differs : Group → Bool
   group_differs g = split.has_two_targets ids g.items
-
-  some_at : {X : Type 0} (xs : List X) (i : ℕ) → i < length xs → (x : X) × (slice_get xs i ≡ Some x)
-  some_at [] i l = absurd (omega (arith, l))
-  some_at (x ∷ xs) zero l = (x, refl)
-  some_at (x ∷ xs) (suc i) l = some_at xs i (omega (arith, l))
 
   contained_at : {X : Type 0} (xs : List X) (x : X) → Contains xs x → (i : ℕ) × (i < length xs) × (slice_get xs i ≡ Some x)
   contained_at [] x (k, l, e) = absurd (omega (arith, l))

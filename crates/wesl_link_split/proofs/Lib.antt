@@ -1,3 +1,4 @@
+pub mod Aims
 pub mod Alike
 pub mod Agreed
 pub mod Lists

@@ -2,11 +2,6 @@
 use Rattle.std.proofs.Common.{◌≡◌, ℕ, zero, suc, ◌≤◌, ◌<◌, ◌+◌, List, [], ◌∷◌, ◌++◌, length, take, get_or, arith, refl, ap}
 use Rattle.std.specs.Prelude.{OnOk, Result, Ok, Err}
 
-pub take_next : {X : Type 0} (xs : List X) (i : ℕ) (x : X) → i < length xs → x ≡ get_or xs i x → take (i + 1) xs ≡ take i xs ++ x ∷ []
-take_next [] i x b e = absurd (omega arith)
-take_next (y ∷ xs) zero x b e = let f : x ≡ y = e in rw f refl
-take_next (y ∷ xs) (suc i) x b e = let n : suc i + 1 ≡ suc (i + 1) = omega arith in rw n (ap (λ l. y ∷ l) (take_next xs i x (omega arith) e))
-
 pub taken_all : {X : Type 0} (xs : List X) (n : ℕ) → length xs ≤ n → take n xs ≡ xs
 taken_all [] zero b = refl
 taken_all [] (suc n) b = refl

@@ -1,28 +1,35 @@
--- The lowest of orders, and the binders that have it.
-use Rattle.std.proofs.Common.{◌≡◌, ◌⊎◌, inl, inr, ℕ, zero, suc, ◌+◌, ◌<◌, ◌≤◌, Bool, true, false, List, [], ◌∷◌, ◌++◌, map, drop, take, length, get_or, arith, refl, sym, subst, ap, ap₂, ◌∙◌, append-nil, append_assoc}
-use Rattle.std.specs.Prelude.{Contains, nat_lt, not, ◌&&◌, ◌==◌, flat_map, if◌then◌else◌}
+-- The lowest of orders, and what has it; lists that are kept one by one.
+use Rattle.std.proofs.Common.{◌≡◌, ◌⊎◌, inl, inr, ℕ, zero, suc, ◌+◌, ◌<◌, ◌≤◌, Bool, true, false, List, [], ◌∷◌, ◌++◌, map, drop, length, get_or, arith, refl, sym, ap, ap₂, ◌∙◌}
+use Rattle.std.specs.Prelude.{Contains, nat_lt, not, ◌&&◌, ◌||◌, ◌==◌, flat_map, if◌then◌else◌}
 use Rattle.std.specs.List.{filter, list_any}
 use Rattle.std.proofs.lemmas.Bool.Decides.{Decides-eqb, Decides-ltb}
-use Rattle.wesl_cond_choices.specs.declared.place.Place.{Place}
 use Rattle.wesl_tree_base.specs.declared.ids.NameId.{NameId}
 use Rattle.wesl_link_symbols.specs.declared.ids.PathId.{PathId}
-use Rattle.wesl_link_symbols.specs.declared.symbols.Reference.{Reference}
-use Rattle.wesl_link_split.specs.Grouped.{ids, IsLeast, kept_if, aim_if}
+use Rattle.wesl_link_split.specs.Grouped.{ids, IsLeast, one_if, asked_first}
+use Rattle.wesl_link_split.specs.SightView.{aim_in}
 use Rattle.wesl_link_split.specs.Split as split
-use Rattle.wesl_link_split.specs.Split.{Binder, Finding, nothing, several, one}
+use Rattle.wesl_link_split.specs.Split.{Binder, Scope}
+use Rattle.wesl_link_split.specs.declared.binders.Aim.{Aim}
 use Rattle.wesl_link_split.proofs.Grouping.{contained}
 use Rattle.wesl_link_split.proofs.Targets.{found_true, none_false}
 
-abbrev Found : Type 0
-Found = Finding PathId NameId
+-- ---- lists
 
 -- what is kept one by one is filtered
-pub filter_flat : (p : Binder PathId NameId → Bool) (bs : List (Binder PathId NameId)) → flat_map (λ b. kept_if (p b) b) bs ≡ filter p bs
-filter_flat p [] = refl
-filter_flat p (b ∷ bs) = by (p b) (filter_flat p bs)
+pub kept_flat : {X Y : Type 0} (p : X → Bool) (f : X → Y) (xs : List X) → flat_map (λ x. one_if (p x) (f x)) xs ≡ map f (filter p xs)
+kept_flat p f [] = refl
+kept_flat {X} {Y} p f (x ∷ xs) = by (p x) (kept_flat p f xs)
   where
-    by : (x : Bool) → flat_map (λ b. kept_if (p b) b) bs ≡ filter p bs → (if x then b ∷ [] else []) ++ flat_map (λ b. kept_if (p b) b) bs ≡ (if x then b ∷ filter p bs else filter p bs)
-    by true e = ap (λ l. b ∷ l) e
+    by : (b : Bool) → flat_map (λ y. one_if (p y) (f y)) xs ≡ map f (filter p xs) → one_if b (f x) ++ flat_map (λ y. one_if (p y) (f y)) xs ≡ map f (if b then x ∷ filter p xs else filter p xs)
+    by true e = ap (λ (l : List Y). f x ∷ l) e
+    by false e = e
+
+pub filter_flat : {X : Type 0} (p : X → Bool) (xs : List X) → flat_map (λ x. one_if (p x) x) xs ≡ filter p xs
+filter_flat p [] = refl
+filter_flat {X} p (x ∷ xs) = by (p x) (filter_flat p xs)
+  where
+    by : (b : Bool) → flat_map (λ y. one_if (p y) y) xs ≡ filter p xs → one_if b x ++ flat_map (λ y. one_if (p y) y) xs ≡ (if b then x ∷ filter p xs else filter p xs)
+    by true e = ap (λ (l : List X). x ∷ l) e
     by false e = e
 
 pub filter_twice : (p q : Binder PathId NameId → Bool) (bs : List (Binder PathId NameId)) → filter (λ b. p b && q b) bs ≡ filter q (filter p bs)
@@ -36,6 +43,43 @@ filter_twice p q (b ∷ bs) = by (p b) (filter_twice p q bs)
         again true e = ap (λ l. b ∷ l) e
         again false e = e
     by false e = e
+
+filter_map : {X Y : Type 0} (p : Y → Bool) (f : X → Y) (xs : List X) → filter p (map f xs) ≡ map f (filter (λ x. p (f x)) xs)
+filter_map p f [] = refl
+filter_map {X} {Y} p f (x ∷ xs) = by (p (f x)) (filter_map p f xs)
+  where
+    by : (b : Bool) → filter p (map f xs) ≡ map f (filter (λ y. p (f y)) xs) → (if b then f x ∷ filter p (map f xs) else filter p (map f xs)) ≡ map f (if b then x ∷ filter (λ y. p (f y)) xs else filter (λ y. p (f y)) xs)
+    by true e = ap (λ (l : List Y). f x ∷ l) e
+    by false e = e
+
+any_map : {X Y : Type 0} (p : Y → Bool) (f : X → Y) (xs : List X) → list_any p (map f xs) ≡ list_any (λ x. p (f x)) xs
+any_map p f [] = refl
+any_map p f (x ∷ xs) = ap (λ b. p (f x) || b) (any_map p f xs)
+
+map_map : {X Y Z : Type 0} (g : Y → Z) (f : X → Y) (xs : List X) → map g (map f xs) ≡ map (λ x. g (f x)) xs
+map_map g f [] = refl
+map_map {X} {Y} {Z} g f (x ∷ xs) = ap (λ (l : List Z). g (f x) ∷ l) (map_map g f xs)
+
+pub map_long : {X Y : Type 0} (f : X → Y) (xs : List X) → length (map f xs) ≡ length xs
+map_long f [] = refl
+map_long f (x ∷ xs) = ap suc (map_long f xs)
+
+-- what stands at one place of a list, and of its image
+pub image_at : {X Y : Type 0} (f : X → Y) (xs : List X) (ys : List Y) (i : ℕ) (x : X) (y : Y) → ys ≡ map f xs → i < length xs → x ≡ get_or xs i x → y ≡ get_or ys i y → y ≡ f x
+image_at f [] ys i x y e h p q = absurd (omega (arith, h))
+image_at f (u ∷ xs) [] i x y e h p q = absurd (let z : ⊥ = cc in z)
+image_at f (u ∷ xs) (v ∷ ys) zero x y e h p q = let z : v ≡ f u = cc in q ∙ (z ∙ ap f (sym p))
+image_at f (u ∷ xs) (v ∷ ys) (suc i) x y e h p q = let z : ys ≡ map f xs = cc in image_at f xs ys i x y z (omega (arith, h)) p q
+
+pub filter_alike : {X : Type 0} (p q : X → Bool) (xs : List X) → ((x : X) → Contains xs x → p x ≡ q x) → filter p xs ≡ filter q xs
+filter_alike p q [] h = refl
+filter_alike {X} p q (x ∷ xs) h =
+    ap₂ (λ b l. if b then x ∷ l else l) (h x (0, omega arith, refl)) (filter_alike p q xs (λ y c. h y (later c)))
+  where
+    later : {y : X} → Contains xs y → Contains (x ∷ xs) y
+    later (k, l, at) = (suc k, omega (arith, l), at)
+
+-- ---- the lowest of numbers
 
 earlier : {X : Type 0} (xs : List X) (x y : X) → Contains xs y → Contains (xs ++ x ∷ []) y
 earlier [] x y (k, l, e) = absurd (omega (arith, l))
@@ -64,75 +108,84 @@ above zero (suc n) h d = omega arith
 above (suc m) zero h d = absurd (omega (arith, h))
 above (suc m) (suc n) h d = omega (arith, above m n (omega (arith, h)) (λ e. d (ap suc e)))
 
-order_bound : (f : Found) → split.order_of ids f ≤ 2
-order_bound nothing = omega arith
-order_bound several = omega arith
-order_bound (one p n x) = omega arith
-
-pub least_none : IsLeast [] 2
-least_none = ((λ f (k, l, e). absurd (omega (arith, l))), inl refl)
+pub least_one : (n : ℕ) → IsLeast (n ∷ []) n
+least_one n = (only, (0, omega arith, refl))
+  where
+    only : (m : ℕ) → Contains (n ∷ []) m → n ≤ m
+    only m (zero, l, e) = let f : n ≡ m = e in omega (arith, f)
+    only m (suc k, l, e) = absurd (omega (arith, l))
 
 -- one more
-pub least_next : (fs : List Found) (f : Found) (n : ℕ) → IsLeast fs n → IsLeast (fs ++ f ∷ []) (if nat_lt (split.order_of ids f) n then split.order_of ids f else n)
-least_next fs f n (low, has) = by (nat_lt (split.order_of ids f) n) refl
+pub least_next : (ns : List ℕ) (m n : ℕ) → IsLeast ns n → IsLeast (ns ++ m ∷ []) (if nat_lt m n then m else n)
+least_next ns m n (low, has) = by (nat_lt m n) refl
   where
-    held_before : (g : Found) → Contains fs g → Contains (fs ++ f ∷ []) g
-    held_before g c = earlier fs f g c
-
-    by : (b : Bool) → nat_lt (split.order_of ids f) n ≡ b → IsLeast (fs ++ f ∷ []) (if b then split.order_of ids f else n)
+    by : (b : Bool) → nat_lt m n ≡ b → IsLeast (ns ++ m ∷ []) (if b then m else n)
     by true e =
-        let less : split.order_of ids f < n = (Decides-ltb (split.order_of ids f) n).0 e in
-        ((λ g c. elim (contained fs f g c) [ inl d ↦ omega (arith, less, low g d) | inr q ↦ subst (λ z. split.order_of ids f ≤ split.order_of ids z) q (omega arith) ]), inr (f, latest fs f, refl))
+        let less : m < n = (Decides-ltb m n).0 e in
+        ((λ k c. elim (contained ns m k c) [ inl d ↦ omega (arith, less, low k d) | inr q ↦ let f : m ≡ k = q in omega (arith, f) ]), latest ns m)
     by false e =
-        let not_less : split.order_of ids f < n → ⊥ = λ h. (let t : nat_lt (split.order_of ids f) n ≡ true = (Decides-ltb (split.order_of ids f) n).1 h in let z : ⊥ = cc in z) in (
-          (λ g c. elim (contained fs f g c) [ inl d ↦ low g d | inr q ↦ subst (λ z. n ≤ split.order_of ids z) q (at_least n (split.order_of ids f) not_less) ]),
-          elim has [ inl e ↦ inl e | inr (g, c, q) ↦ inr (g, held_before g c, q) ],
-        )
+        let not_less : m < n → ⊥ = λ h. (let t : nat_lt m n ≡ true = (Decides-ltb m n).1 h in let z : ⊥ = cc in z) in
+        ((λ k c. elim (contained ns m k c) [ inl d ↦ low k d | inr q ↦ let f : m ≡ k = q in omega (arith, f, at_least n m not_less) ]), earlier ns m n has)
 
--- the binders that have the lowest order are those before which none is asked
-module _ (find : Binder PathId NameId → Found) (bs : List (Binder PathId NameId)) (n : ℕ) (least : IsLeast (map find bs) n) where
-  abbrev order : Binder PathId NameId → ℕ
-  order b = split.order_of ids (find b)
+-- of these, those that have the lowest order are those before which none is
+module _ {X : Type 0} (order : X → ℕ) (first : X) (xs : List X) (n : ℕ) (held : Contains xs first) (least : IsLeast (order first ∷ map order xs) n) where
+  mapped_in : (x : X) (ys : List X) → Contains ys x → Contains (map order ys) (order x)
+  mapped_in x [] (k, l, e) = absurd (omega (arith, l))
+  mapped_in x (y ∷ ys) (zero, l, e) = (0, omega arith, ap order e)
+  mapped_in x (y ∷ ys) (suc k, l, e) = let (j, m, f) = mapped_in x ys (k, omega (arith, l), e) in (suc j, omega (arith, m), f)
 
-  found_in : (f : Found) (cs : List (Binder PathId NameId)) → Contains (map find cs) f → (b : Binder PathId NameId) × Contains cs b × (find b ≡ f)
-  found_in f [] (k, l, e) = absurd (omega (arith, l))
-  found_in f (c ∷ cs) (zero, l, e) = (c, (0, omega arith, refl), e)
-  found_in f (c ∷ cs) (suc k, l, e) = let (b, (j, m, g), q) = found_in f cs (k, omega (arith, l), e) in (b, (suc j, omega (arith, m), g), q)
+  ordered_in : (m : ℕ) (ys : List X) → Contains (map order ys) m → (y : X) × Contains ys y × (order y ≡ m)
+  ordered_in m [] (k, l, e) = absurd (omega (arith, l))
+  ordered_in m (y ∷ ys) (zero, l, e) = (y, (0, omega arith, refl), e)
+  ordered_in m (y ∷ ys) (suc k, l, e) = let (z, (j, h, g), q) = ordered_in m ys (k, omega (arith, l), e) in (z, (suc j, omega (arith, h), g), q)
 
-  mapped_in : (b : Binder PathId NameId) (cs : List (Binder PathId NameId)) → Contains cs b → Contains (map find cs) (find b)
-  mapped_in b [] (k, l, e) = absurd (omega (arith, l))
-  mapped_in b (c ∷ cs) (zero, l, e) = (0, omega arith, ap find e)
-  mapped_in b (c ∷ cs) (suc k, l, e) = let (j, m, f) = mapped_in b cs (k, omega (arith, l), e) in (suc j, omega (arith, m), f)
+  low : (x : X) → Contains xs x → n ≤ order x
+  low x c = let (k, l, e) = mapped_in x xs c in least.0 (order x) (suc k, omega (arith, l), e)
 
-  low : (b : Binder PathId NameId) → Contains bs b → n ≤ order b
-  low b c = least.0 (find b) (mapped_in b bs c)
-
-  pub lowest_test : (b : Binder PathId NameId) → Contains bs b → not (list_any (λ c. nat_lt (order c) (order b)) bs) ≡ (order b == n)
-  lowest_test b c = by (order b == n) refl
+  -- the one that has it
+  lowest_one : (x : X) × Contains xs x × (order x ≡ n)
+  lowest_one = from least.1
     where
-      none_lower : order b ≡ n → (d : Binder PathId NameId) → Contains bs d → nat_lt (order d) (order b) ≡ false
-      none_lower e d h = no (nat_lt (order d) (order b)) refl
+      from : Contains (order first ∷ map order xs) n → (x : X) × Contains xs x × (order x ≡ n)
+      from (zero, l, e) = (first, held, e)
+      from (suc k, l, e) = ordered_in n xs (k, omega (arith, l), e)
+
+  pub lowest_test : (x : X) → Contains xs x → not (list_any (λ y. nat_lt (order y) (order x)) xs) ≡ (order x == n)
+  lowest_test x c = by (order x == n) refl
+    where
+      none_lower : order x ≡ n → (y : X) → Contains xs y → nat_lt (order y) (order x) ≡ false
+      none_lower e y h = no (nat_lt (order y) (order x)) refl
         where
-          no : (x : Bool) → nat_lt (order d) (order b) ≡ x → nat_lt (order d) (order b) ≡ false
+          no : (b : Bool) → nat_lt (order y) (order x) ≡ b → nat_lt (order y) (order x) ≡ false
           no false q = q
-          no true q = absurd (let less : order d < order b = (Decides-ltb (order d) (order b)).0 q in omega (arith, less, e, low d h))
+          no true q = absurd (let less : order y < order x = (Decides-ltb (order y) (order x)).0 q in omega (arith, less, e, low y h))
 
-      some_lower : (order b ≡ n → ⊥) → list_any (λ c. nat_lt (order c) (order b)) bs ≡ true
-      some_lower apart = so least.1
-        where
-          more : n < order b
-          more = above n (order b) (low b c) apart
+      some_lower : (order x ≡ n → ⊥) → list_any (λ y. nat_lt (order y) (order x)) xs ≡ true
+      some_lower apart =
+          let (y, h, same) = lowest_one in
+          found_true (λ z. nat_lt (order z) (order x)) xs y h ((Decides-ltb (order y) (order x)).1 (omega (arith, same, above n (order x) (low x c) apart)))
 
-          so : (n ≡ 2) ⊎ ((f : Found) × Contains (map find bs) f × (split.order_of ids f ≡ n)) → list_any (λ c. nat_lt (order c) (order b)) bs ≡ true
-          so (inl e) = absurd (omega (arith, e, more, order_bound (find b)))
-          so (inr (f, held, q)) =
-              let (d, in_bs, is) = found_in f bs held in
-              let same : order d ≡ n = ap (split.order_of ids) is ∙ q in
-              found_true (λ c. nat_lt (order c) (order b)) bs d in_bs ((Decides-ltb (order d) (order b)).1 (omega (arith, same, more)))
+      by : (b : Bool) → (order x == n) ≡ b → not (list_any (λ y. nat_lt (order y) (order x)) xs) ≡ (order x == n)
+      by true e = ap not (none_false (λ y. nat_lt (order y) (order x)) xs (none_lower ((Decides-eqb (order x) n).0 e))) ∙ sym e
+      by false e = ap not (some_lower (λ q. (let t : (order x == n) ≡ true = (Decides-eqb (order x) n).1 q in let z : ⊥ = cc in z))) ∙ sym e
 
-      by : (x : Bool) → (order b == n) ≡ x → not (list_any (λ c. nat_lt (order c) (order b)) bs) ≡ (order b == n)
-      by true e = ap not (none_false (λ c. nat_lt (order c) (order b)) bs (none_lower ((Decides-eqb (order b) n).0 e))) ∙ sym e
-      by false e = ap not (some_lower (λ q. (let t : (order b == n) ≡ true = (Decides-eqb (order b) n).1 q in let z : ⊥ = cc in z))) ∙ sym e
+-- ---- what is asked first
+
+-- what binders aim at, of those that are asked first
+pub asked_aims : (s : Scope PathId NameId) (bs : List (Binder PathId NameId)) → asked_first (map (aim_in s) bs) ≡ map (split.aim_of ids s) (split.lowest ids s bs)
+asked_aims s bs =
+    ap (map (λ (x : Aim). x.reference)) (filter_map first (aim_in s) bs)
+    ∙ (map_map (λ (x : Aim). x.reference) (aim_in s) (filter (λ b. first (aim_in s b)) bs)
+    ∙ ap (map (split.aim_of ids s)) (filter_alike (λ b. first (aim_in s b)) lowest bs (λ b c. ap not (any_map (λ y. nat_lt y.order (order b)) (aim_in s) bs))))
+  where
+    order : Binder PathId NameId → ℕ
+    order b = split.order_of ids (split.finding ids s b)
+
+    first : Aim → Bool
+    first x = not (list_any (λ y. nat_lt y.order x.order) (map (aim_in s) bs))
+
+    lowest : Binder PathId NameId → Bool
+    lowest b = not (list_any (λ c. nat_lt (split.order_of ids (split.finding ids s c)) (split.order_of ids (split.finding ids s b))) bs)
 
 -- ---- the first that asks
 
@@ -159,29 +212,3 @@ pub itself : {X : Type 0} (xs : List X) (i : ℕ) (d : X) → i < length xs → 
 itself [] i d h = absurd (omega (arith, h))
 itself (x ∷ xs) zero d h = refl
 itself (x ∷ xs) (suc i) d h = itself xs i d (omega (arith, h))
-
--- what is aimed at one by one
-pub aims_flat : (p : Binder PathId NameId → Bool) (from : Binder PathId NameId → Place) (bs : List (Binder PathId NameId)) → flat_map (λ b. aim_if (p b) b (from b)) bs ≡ map (λ b. record { path = b.path; name = b.item; from = from b }) (filter p bs)
-aims_flat p from [] = refl
-aims_flat p from (b ∷ bs) = by (p b) (aims_flat p from bs)
-  where
-    by : (x : Bool) → flat_map (λ b. aim_if (p b) b (from b)) bs ≡ map (λ b. record { path = b.path; name = b.item; from = from b }) (filter p bs)
-        → aim_if x b (from b) ++ flat_map (λ b. aim_if (p b) b (from b)) bs ≡ map (λ b. record { path = b.path; name = b.item; from = from b }) (if x then b ∷ filter p bs else filter p bs)
-    by true e = ap (λ (l : List (Reference PathId NameId)). record { path = b.path; name = b.item; from = from b } ∷ l) e
-    by false e = e
-
-pub filter_alike : {X : Type 0} (p q : X → Bool) (xs : List X) → ((x : X) → Contains xs x → p x ≡ q x) → filter p xs ≡ filter q xs
-filter_alike p q [] h = refl
-filter_alike {X} p q (x ∷ xs) h =
-    ap₂ (λ b l. if b then x ∷ l else l) (h x (0, omega arith, refl)) (filter_alike p q xs (λ y c. h y (later c)))
-  where
-    later : {y : X} → Contains xs y → Contains (x ∷ xs) y
-    later (k, l, at) = (suc k, omega (arith, l), at)
-
--- what is made of one element more
-pub flat_map_next : {X Y : Type 0} (f : X → List Y) (xs : List X) (i : ℕ) (x : X) → i < length xs → x ≡ get_or xs i x → flat_map f (take (i + 1) xs) ≡ flat_map f (take i xs) ++ f x
-flat_map_next f [] i x h e = absurd (omega (arith, h))
-flat_map_next f (y ∷ xs) zero x h e = append-nil (f y) ∙ ap f (sym e)
-flat_map_next f (y ∷ xs) (suc i) x h e =
-    let n : suc i + 1 ≡ suc (i + 1) = omega arith in
-    rw n (ap (λ l. f y ++ l) (flat_map_next f xs i x (omega (arith, h)) e) ∙ sym (append_assoc (f y) (flat_map f (take i xs)) (f x)))

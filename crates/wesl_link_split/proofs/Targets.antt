@@ -1,5 +1,5 @@
 -- Lists in which two elements differ by a test, and tests of numbers.
-use Rattle.std.proofs.Common.{◌≡◌, ℕ, zero, suc, ◌<◌, Bool, true, false, ◌||◌, List, [], ◌∷◌, length, get_or, arith, refl, sym, subst, ap, ap₂, ◌∙◌}
+use Rattle.std.proofs.Common.{◌≡◌, ℕ, zero, suc, Bool, true, false, ◌||◌, List, [], ◌∷◌, arith, refl, sym, subst, ap, ap₂, ◌∙◌}
 use Rattle.std.specs.Prelude.{Contains, not, ◌&&◌, ◌==◌}
 use Rattle.std.specs.Bool.{Decides}
 use Rattle.std.specs.Cmp.Lexicographic.{pointwise}
@@ -60,13 +60,6 @@ pub both_true : (a b : Bool) → (a && b) ≡ true → (a ≡ true) × (b ≡ tr
 both_true true true h = (refl, refl)
 both_true true false h = absurd (let z : ⊥ = cc in z)
 both_true false b h = absurd (let z : ⊥ = cc in z)
-
--- ---- in a loop
-
-pub contains_at : {X : Type 0} (xs : List X) (i : ℕ) (x : X) → i < length xs → x ≡ get_or xs i x → Contains xs x
-contains_at [] i x b at = absurd (omega (arith, b))
-contains_at (y ∷ xs) zero x b at = (0, omega arith, sym at)
-contains_at (y ∷ xs) (suc i) x b at = let (k, l, e) = contains_at xs i x (omega (arith, b)) at in (suc k, omega (arith, l), e)
 
 pub not_any : {X : Type 0} (p : X → Bool) (xs : List X) → list_any p xs ≡ false → (x : X) → Contains xs x → p x ≡ false
 not_any p xs h x c = by (p x) refl

@@ -1,5 +1,5 @@
 -- What names ask for in a module in which each name has one target.
-use Rattle.std.proofs.Common.{◌≡◌, zero, suc, Bool, true, false, ◌||◌, Some, None, List, [], ◌∷◌, map, take, All, get_or, arith, refl, sym, subst, ap, ap₂, ◌∙◌}
+use Rattle.std.proofs.Common.{◌≡◌, zero, suc, Bool, true, false, ◌||◌, Some, None, List, [], ◌∷◌, map, take, arith, refl, sym, subst, ap, ap₂, ◌∙◌}
 use Rattle.std.specs.Prelude.{Contains, nat_lt, not, ◌&&◌, ◌==◌, if◌then◌else◌, slice_get}
 use Rattle.std.specs.List.{filter, list_any}
 use Rattle.std.proofs.lemmas.Bool.Decides.{Decides-eqb}
@@ -9,13 +9,12 @@ use Rattle.wesl_tree_base.specs.declared.ids.NameId.{NameId}
 use Rattle.wesl_link_symbols.specs.declared.ids.PathId.{PathId}
 use Rattle.wesl_link_symbols.specs.declared.symbols.Reference.{Reference}
 use Rattle.wesl_link_split.specs.Grouped.{ids, same_id, has_declaration, first_import, IsStart}
-use Rattle.wesl_link_split.specs.ScopeView.{whole}
+use Rattle.wesl_link_split.specs.SightView.{whole}
 use Rattle.wesl_link_split.specs.Split as split
 use Rattle.wesl_link_split.specs.Split.{Binder, Scope}
 use Rattle.wesl_link_split.specs.declared.binders.Start.TheVariants as starts
 use Rattle.wesl_link_split.proofs.Grouping.{id_is}
-use Rattle.wesl_link_split.proofs.Orders.{itself}
-use Rattle.wesl_link_split.proofs.Targets.{none_false, not_any, positive, contains_at}
+use Rattle.wesl_link_split.proofs.Targets.{none_false, not_any, positive}
 
 abbrev Ours : Type 0
 Ours = Binder PathId NameId
@@ -169,16 +168,6 @@ module _ (s : Scope PathId NameId) (n : NameId) (here : Place) (bs : List Ours) 
       by : (ds : List Ours) → filter (λ b. b.declares) bs ≡ ds → split.aimed_of ids s n here ds bs ≡ map (split.aim_of ids s) (split.lowest ids s bs)
       by [] e = refl
       by (d ∷ ds) e = absurd (let t : has_declaration bs ≡ true = (filter_some (λ b. b.declares) bs).1 d ds e in let z : ⊥ = cc in z)
-
--- what is seen of a name has that name
-pub seen_named : (s : Scope PathId NameId) (n : NameId) (here : Place) → All (λ b. b.bound ≡ n) (split.seen ids s n here)
-seen_named s n here k d h =
-    let xs : List Ours = split.seen ids s n here in
-    let x : Ours = get_or xs k d in
-    let c : Contains xs x = contains_at xs k x h (itself xs k d h) in
-    let (held, t) = filter_in (λ b. split.sees ids s here (split.place_at ids s n b.stands)) (split.of_name ids n s.binders) x c in
-    let (there, u) = filter_in (λ b. same_id n b.bound) s.binders x held in
-    sym (id_is n x.bound u)
 
 -- ---- the imports of a name with one target, and with what a path begins
 

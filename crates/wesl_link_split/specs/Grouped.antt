@@ -1,20 +1,23 @@
 -- The binders of a module by numbers, as the code keeps them.
-use Rattle.std.specs.Prelude.{◌≡◌, ◌⊎◌, ◌≤◌, ◌==◌, ◌&&◌, ◌++◌, ℕ, Bool, true, not, false, if◌then◌else◌, Option, List, [], ◌∷◌, Some, Contains, length, slice_get, take}
+use Rattle.std.specs.Prelude.{◌≡◌, ◌≤◌, ◌==◌, ◌&&◌, ◌++◌, ℕ, Bool, true, not, false, if◌then◌else◌, nat_lt, Option, List, [], ◌∷◌, Some, Contains, length, map, slice_get, take}
+use Rattle.std.specs.Bool.{beq}
 use Rattle.std.specs.Global.{Vec}
 use Rattle.std.specs.List.{filter, list_any}
-use Rattle.wesl_cond_choices.specs.declared.place.Place.{Place}
+use Rattle.wesl_cond_choices.specs.Places.{same_place}
 use Rattle.wesl_link_symbols.specs.declared.ids.PathId.{PathId}
 use Rattle.wesl_tree_base.specs.declared.ids.NameId.{NameId}
 use Rattle.wesl_link_symbols.specs.declared.symbols.Reference.{Reference}
 use Rattle.wesl_tree_interner.specs.Different.{AreDifferent}
 use Rattle.wesl_link_split.specs.Split as split
 use Rattle.wesl_link_split.specs.Split.{Binder, Equality}
+use Rattle.wesl_link_split.specs.declared.binders.Aim.{Aim}
 use Rattle.wesl_link_split.specs.declared.binders.Facts.{Facts}
 use Rattle.wesl_link_split.specs.declared.binders.Finding.{Finding}
 use Rattle.wesl_link_split.specs.declared.binders.Finding.TheVariants as findings
 use Rattle.wesl_link_split.specs.declared.binders.Start.{Start}
 use Rattle.wesl_link_split.specs.declared.binders.Start.TheVariants as starts
 
+-- two names are one by their numbers
 abbrev pub same_id : NameId → NameId → Bool
 same_id m n = m.0 == n.0
 
@@ -22,14 +25,17 @@ same_id m n = m.0 == n.0
 abbrev pub ids : Equality PathId NameId
 ids = record { path = λ p q. p.0 == q.0; name = same_id }
 
+-- how an import finds what it aims at, as the definitions have it
 abbrev pub finding_view : Finding → split.Finding PathId NameId
 finding_view findings.Nothing = split.nothing
 finding_view findings.Several = split.several
 finding_view (findings.One p n sight) = split.one p n sight.items
 
+-- one of these binders is a declaration
 abbrev pub has_declaration : List (Binder PathId NameId) → Bool
 has_declaration bs = list_any (λ b. b.declares) bs
 
+-- the first of these binders that is an import, if one is
 abbrev pub first_import : List (Binder PathId NameId) → Option (Binder PathId NameId)
 first_import bs = slice_get (filter (λ b. not b.declares) bs) 0
 
@@ -43,23 +49,25 @@ IsStart starts.Nothing bs = bs ≡ []
 IsStart starts.Several bs = split.has_two_targets ids bs ≡ true
 IsStart (starts.One b) bs = (split.has_two_targets ids bs ≡ false) × (take 1 bs ≡ b ∷ [])
 
--- the binder, if it is kept
-abbrev pub kept_if : Bool → Binder PathId NameId → List (Binder PathId NameId)
-kept_if is_kept b = if is_kept then b ∷ [] else []
-
--- what the binder aims at, asked for from a place, if it is asked
-abbrev pub aim_if : Bool → Binder PathId NameId → Place → List (Reference PathId NameId)
-aim_if is_asked b from = if is_asked then record { path = b.path; name = b.item; from = from } ∷ [] else []
+-- this alone, if it is kept
+abbrev pub one_if : {X : Type 0} → Bool → X → List X
+one_if is_kept x = if is_kept then x ∷ [] else []
 
 -- the binder `c` finds what `b` does, and may ask for both
 abbrev pub asks_for : Binder PathId NameId → split.Finding PathId NameId → Binder PathId NameId → split.Finding PathId NameId → Bool
 asks_for b f c g = not c.declares && (split.same_target ids b c && split.same_finding ids f g)
 
--- the lowest order of these, and 2 where there are none
-abbrev pub IsLeast : List (split.Finding PathId NameId) → ℕ → Type 0
-IsLeast fs n =
-    ((f : split.Finding PathId NameId) → Contains fs f → n ≤ split.order_of ids f)
-    × ((n ≡ 2) ⊎ ((f : split.Finding PathId NameId) × Contains fs f × (split.order_of ids f ≡ n)))
+-- the lowest of these numbers
+abbrev pub IsLeast : List ℕ → ℕ → Type 0
+IsLeast ns n = ((m : ℕ) → Contains ns m → n ≤ m) × Contains ns n
+
+-- what these ask for, those of the lowest order alone
+abbrev pub asked_first : List Aim → List (Reference PathId NameId)
+asked_first xs = map (λ x. x.reference) (filter (λ x. not (list_any (λ y. nat_lt y.order x.order) xs)) xs)
+
+-- two binders are one
+abbrev pub same_binder : Binder PathId NameId → Binder PathId NameId → Bool
+same_binder b c = split.same_target ids b c && (same_id b.bound c.bound && (beq b.declares c.declares && same_place b.stands c.stands))
 
 -- two of these ask for different things
 abbrev pub are_unlike : List (Reference PathId NameId) → Bool

@@ -19,6 +19,7 @@ AreRelated R (x ∷ xs) (y ∷ ys) = R x y × AreRelated R xs ys
 AreRelated R _ _ = ⊥
 
 module _ {P N Q M : Type 0} (R : P → Q → Type 0) (S : N → M → Type 0) where
+  -- both imports say the same: their names and their paths are related, and all else is equal
   pub record SameImport (i : Import P N) (j : Import Q M) : Type 0 where
     pub bound : S i.bound j.bound
     pub path : R i.path j.path
@@ -28,11 +29,13 @@ module _ {P N Q M : Type 0} (R : P → Q → Type 0) (S : N → M → Type 0) wh
     pub from : i.from ≡ j.from
     pub order : i.order ≡ j.order
 
+  -- both references say the same: their paths and their names are related, and they ask from the same place
   pub record SameReference (r : Reference P N) (s : Reference Q M) : Type 0 where
     pub path : R r.path s.path
     pub name : S r.name s.name
     pub from : r.from ≡ s.from
 
+  -- both binders say the same: their names and their paths are related, and both are declarations or neither is, at one place
   pub record SameBinder (b : Binder P N) (c : Binder Q M) : Type 0 where
     pub bound : S b.bound c.bound
     pub path : R b.path c.path
@@ -40,6 +43,8 @@ module _ {P N Q M : Type 0} (R : P → Q → Type 0) (S : N → M → Type 0) wh
     pub declares : b.declares ≡ c.declares
     pub stands : b.stands ≡ c.stands
 
+  -- Both modules say the same: their paths are related, and their binders say the same one by one. Of any two places, the one
+  -- has a choice of flags that keeps both exactly where the other has one.
   pub record SameScope (s : Scope P N) (t : Scope Q M) : Type 0 where
     pub own : R s.own t.own
     pub binders : AreRelated SameBinder s.binders t.binders
@@ -52,25 +57,31 @@ pub record Numbering : Type 0 where
   pub names : List Text
   pub paths : List Path
 
--- the name of a number, and the path of one
+-- this is the name with the number; a number out of range has none
 abbrev pub NameAt : Numbering → NameId → Text → Type 0
 NameAt numbering n x = slice_get numbering.names n.0 ≡ Some x
 
+-- this is the path with the number; a number out of range has none
 abbrev pub PathAt : Numbering → PathId → Path → Type 0
 PathAt numbering p q = slice_get numbering.paths p.0 ≡ Some q
 
 module _ (numbering : Numbering) where
+  -- the import has these numbers where the other has names and a path
   abbrev pub IsNumberedImport : Import PathId NameId → Import Path Text → Type 0
   IsNumberedImport i j = SameImport (PathAt numbering) (NameAt numbering) i j
 
+  -- the reference has these numbers where the other has a name and a path
   abbrev pub IsNumberedReference : Reference PathId NameId → Reference Path Text → Type 0
   IsNumberedReference r s = SameReference (PathAt numbering) (NameAt numbering) r s
 
+  -- the references have these numbers where the others, each at its place, have names and paths
   abbrev pub AreNumberedReferences : List (Reference PathId NameId) → List (Reference Path Text) → Type 0
   AreNumberedReferences rs ss = AreRelated (SameReference (PathAt numbering) (NameAt numbering)) rs ss
 
+  -- the binders have these numbers where the others, each at its place, have names and paths
   abbrev pub AreNumberedBinders : List (Binder PathId NameId) → List (Binder Path Text) → Type 0
   AreNumberedBinders bs cs = AreRelated (SameBinder (PathAt numbering) (NameAt numbering)) bs cs
 
+  -- the module has these numbers where the other has names and paths
   abbrev pub IsNumberedScope : Scope PathId NameId → Scope Path Text → Type 0
   IsNumberedScope s t = SameScope (PathAt numbering) (NameAt numbering) s t

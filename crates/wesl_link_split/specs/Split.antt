@@ -27,6 +27,7 @@ pub data Finding (P N : Type 0) : Type 0 where
   several : Finding P N
   one : P → N → List Bool → Finding P N
 
+-- whether of as many binders, in their order, both say alike which are seen
 abbrev pub same_sight : List Bool → List Bool → Bool
 same_sight [] [] = true
 same_sight (x ∷ xs) (y ∷ ys) = (if x then y else not y) && same_sight xs ys
@@ -37,9 +38,11 @@ abbrev pub binder_of : {P N : Type 0} → Import P N → Binder P N
 binder_of i = record { bound = i.bound; path = i.path; item = i.item; declares = false; stands = i.place }
 
 module _ {P N : Type 0} (same : Equality P N) where
+  -- whether two binders aim at the same item of the same module
   abbrev pub same_target : Binder P N → Binder P N → Bool
   same_target b c = same.path b.path c.path && same.name b.item c.item
 
+  -- the binders of the name, in their order
   abbrev pub of_name : N → List (Binder P N) → List (Binder P N)
   of_name n bs = filter (λ b. same.name n b.bound) bs
 
@@ -51,6 +54,7 @@ module _ {P N : Type 0} (same : Equality P N) where
   abbrev pub is_split : List (Binder P N) → N → Bool
   is_split bs n = has_two_targets (of_name n bs)
 
+  -- whether a name of these binders is split
   abbrev pub has_split : List (Binder P N) → Bool
   has_split bs = list_any (λ b. is_split bs b.bound) bs
 
@@ -60,12 +64,14 @@ module _ {P N : Type 0} (same : Equality P N) where
   order_of several = 1
   order_of (one p n sight) = 2
 
+  -- whether two imports find alike: nothing, two targets, or the same one, by the same binders where these lead on
   abbrev pub same_finding : Finding P N → Finding P N → Bool
   same_finding nothing nothing = true
   same_finding several several = true
   same_finding (one p n x) (one q m y) = same.path p q && same.name n m && same_sight x y
   same_finding _ _ = false
 
+  -- whether both ask the same module for the same name, from the same place
   abbrev pub same_reference : Reference P N → Reference P N → Bool
   same_reference a b = same.path a.path b.path && same.name a.name b.name && same_place a.from b.from
 
@@ -74,20 +80,24 @@ module _ {P N : Type 0} (same : Equality P N) where
     abbrev pub place_at : N → Place → Place
     place_at n stands = if is_split s.binders n then stands else Always
 
+    -- the same of a declaration by the name that it binds; one that binds none is seen from everywhere
     abbrev pub place_of : Option N → Place → Place
     place_of None stands = Always
     place_of (Some n) stands = place_at n stands
 
+    -- whether what is placed at `p` is seen from the place `from`: `p` is `Always`, or some choice of flags keeps both
     abbrev pub sees : Place → Place → Bool
     sees from p = is_always p || together s.alive from p
 
-    -- the binders of a name that are seen from a place, and which of them are
+    -- the binders of a name that are seen from a place
     abbrev pub seen : N → Place → List (Binder P N)
     seen n from = filter (λ b. sees from (place_at n b.stands)) (of_name n s.binders)
 
+    -- of each binder of a name, in their order, whether it is seen from a place
     abbrev pub sight : N → Place → List Bool
     sight n from = map (λ b. sees from (place_at n b.stands)) (of_name n s.binders)
 
+    -- whether the path is that of this module, and the name one of its split names
     abbrev pub is_own_split : P → N → Bool
     is_own_split p n = same.path p s.own && is_split s.binders n
 
@@ -111,11 +121,12 @@ module _ {P N : Type 0} (same : Equality P N) where
     abbrev pub finding : Binder P N → Finding P N
     finding b = if is_own_split b.path b.item then found_of b (seen b.item b.stands) else one b.path b.item []
 
-    -- the first import of the name with that target that finds it alike: itself at the latest
+    -- the first of these binders, and where there are none the one that is given
     abbrev pub first_or : Binder P N → List (Binder P N) → Binder P N
     first_or b [] = b
     first_or b (c ∷ cs) = c
 
+    -- the first import of the name with that target that finds it alike: itself at the latest
     abbrev pub asker_of : Binder P N → Binder P N
     asker_of b = first_or b (filter (λ c. not c.declares && (same_target b c && same_finding (finding b) (finding c))) (of_name b.bound s.binders))
 
@@ -138,11 +149,13 @@ module _ {P N : Type 0} (same : Equality P N) where
     abbrev pub under : N → Place → P → Reference P N
     under n here p = record { path = p; name = n; from = asked_at p n here }
 
-    -- what a name without a path leads to: to the module's own declaration, else to what its imports aim at, of all that is seen
+    -- what a name without a path leads to: to the module's own declaration, else to what its imports aim at, of all that is
+    -- seen
     abbrev pub aimed_of : N → Place → List (Binder P N) → List (Binder P N) → List (Reference P N)
     aimed_of n here (d ∷ ds) bs = under n here s.own ∷ []
     aimed_of n here [] bs = map aim_of (lowest bs)
 
+    -- the same by the binders of the name that are seen from `here`
     abbrev pub aimed_plain : N → Place → List (Reference P N)
     aimed_plain n here = aimed_of n here (filter (λ b. b.declares) (seen n here)) (seen n here)
 
@@ -160,5 +173,6 @@ module _ {P N : Type 0} (same : Equality P N) where
 
     -- ---- the imports of the module's table
 
+    -- the import with what is settled by all binders of the module: where it is seen from, where it asks from, and its order
     abbrev pub settled : Import P N → Import P N
     settled i = record i { place = place_at i.bound i.place; from = from_of (binder_of i); order = order_of (finding (binder_of i)) }

@@ -5,6 +5,7 @@ use Rattle.wesl_cond_choices.specs.declared.place.Place.TheVariants.{Always, Imp
 use Rattle.wesl_link_split.specs.Split.{Binder, Scope, is_split, finding, order_of, from_of}
 use Rattle.wesl_link_split.specs.Uses.{texts, refers, unclear, plain_use, path_use}
 
+-- the modules `package::p` and `package::q`, and the names `f`, `g` and `h`:
 abbrev pub at_p : Path
 at_p = record { origin = root_path.origin; components = (112 ∷ []) ∷ [] }
 
@@ -20,6 +21,7 @@ g = 103 ∷ []
 abbrev pub h : Text
 h = 104 ∷ []
 
+-- the import by the statement with number j, which binds the name n to an item of the module at a path
 abbrev pub import_at : Text → Path → Text → ℕ → Binder Path Text
 import_at n path item j = record { bound = n; path = path; item = item; declares = false; stands = Import j }
 
@@ -34,6 +36,7 @@ g1 = import_at f root_path g 0
 abbrev pub g2 : Binder Path Text
 g2 = import_at f root_path g 1
 
+-- the module of these two, where one choice of flags keeps an import of g from p, and the other one from q
 abbrev pub through : Scope Path Text
 through = record { own = root_path; binders = g1 ∷ g2 ∷ import_at g at_p f 2 ∷ import_at g at_q f 3 ∷ []; alive = (Import 0 ∷ Import 1 ∷ Import 2 ∷ []) ∷ (Import 1 ∷ Import 3 ∷ []) ∷ [] }
 
@@ -53,6 +56,7 @@ m1 = import_at f root_path g 0
 abbrev pub m2 : Binder Path Text
 m2 = import_at f root_path g 1
 
+-- the module of these, where each choice keeps an import of h, from p or from q, and none those of f and g from p
 abbrev pub onward : Scope Path Text
 onward = record {
   own = root_path;
@@ -61,6 +65,7 @@ onward = record {
   alive = (Import 4 ∷ Import 7 ∷ []) ∷ (Import 0 ∷ Import 3 ∷ Import 6 ∷ []) ∷ (Import 1 ∷ Import 4 ∷ Import 7 ∷ Name 10 ∷ []) ∷ (Import 1 ∷ Import 3 ∷ Import 6 ∷ []) ∷ [];
 }
 
+-- what is split, found and asked for in these modules
 pub record SplitRows : Type 0 where
   pub split : is_split texts either.binders f ≡ true
   pub under : plain_use either (Name 10) f ≡ refers f (record { path = at_p; name = f; from = Always } ∷ [])

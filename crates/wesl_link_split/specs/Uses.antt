@@ -6,6 +6,7 @@ use Rattle.wesl_cond_choices.specs.declared.place.Place.{Place}
 use Rattle.wesl_link_symbols.specs.declared.symbols.Reference.{Reference}
 use Rattle.wesl_link_split.specs.Split.{Equality, Binder, Scope, has_two_targets, under, asked_plain, is_unclear_plain, seen_imports}
 
+-- what an identifier of a global declaration is to a link
 pub data Use (P I : Type 0) : Type 0 where
   -- the name that a global declaration binds
   declares : I → Use P I
@@ -35,6 +36,7 @@ package_name _ = []
 abbrev pub module_in_place : Path → Binder Path Text → Path
 module_in_place p i = extend (push i.path i.item) p.components
 
+-- these paths, and where there are none the one that is given
 abbrev pub or_itself : List Path → Path → List Path
 or_itself [] p = p ∷ []
 or_itself (q ∷ qs) p = q ∷ qs
@@ -47,6 +49,7 @@ aims own imports p = or_itself (take 1 (map (module_in_place p) imports)) (join 
 -- ---- what a name asks for that is used at `here`
 
 module _ (s : Scope Path Text) (here : Place) where
+  -- a name without a path: it is unclear where it stands for two things, and else asks for the one
   abbrev pub plain_use : Text → Use Path Text
   plain_use n = said n n (is_unclear_plain texts s n here) (asked_plain texts s n here)
 
@@ -55,6 +58,8 @@ module _ (s : Scope Path Text) (here : Place) where
   through (from_package x) = seen_imports texts s x here
   through _ = []
 
+  -- A name under a path. It is unclear where the path begins with a name whose seen imports have two targets, and else is asked
+  -- for in the module that the path aims at.
   abbrev pub path_use : Path → Text → Use Path Text
   path_use p n =
       said n (package_name p.origin) (has_two_targets texts (through p.origin)) (map (under texts s n here) (aims s.own (through p.origin) p))

@@ -1,5 +1,5 @@
 //! The binders of a module, by the numbers of paths and names, and how an import finds what it aims at.
-ghost use Rattle.std.specs.Prelude.{◌≡◌, ◌++◌, ⊤, nat_lt, not, map, if◌then◌else◌, OnOk};
+ghost use Rattle.std.specs.Prelude.{◌≡◌, ◌++◌, ◌∷◌, [], ⊤, nat_lt, not, map, if◌then◌else◌, OnOk};
 ghost use Rattle.std.specs.List.{list_any};
 ghost use Rattle.wesl_cond_choices.specs.declared.place.Place.TheVariants as places;
 ghost use Rattle.wesl_link_split.specs.Grouped as grouped;
@@ -72,7 +72,7 @@ pub(crate) fn keep(
     binder: &Binder<PathId, NameId>,
     is_kept: bool,
 ) -> Result<(), AllocError>
-    ensures { OnOk result (found.new.items ≡ found.old.items ++ grouped.kept_if is_kept binder.now) }
+    ensures { OnOk result (found.new.items ≡ found.old.items ++ grouped.one_if is_kept binder.now) }
 {
     if is_kept {
         found.push(*binder)?;
@@ -224,6 +224,36 @@ pub(crate) fn start_of(imports: &[Binder<PathId, NameId>]) -> Start
     }
 }
 
+/// What a binder aims at, and before which others it is asked.
+#[derive(Copy, Drop)]
+pub(crate) struct Aim {
+    /// The name that it asks for, from where it asks.
+    pub(crate) reference: Reference<PathId, NameId>,
+    /// Those of the lowest order are asked.
+    pub(crate) order: usize,
+}
+
+// By hand, since a derived copy asks each part for one, which may be refused.
+impl Clone for Aim {
+    ghost is_clone = { λ old new. new ≡ old };
+
+    ghost is_infallible = { λ _. ⊤ };
+
+    fn clone(&self) -> Result<Aim, AllocError> {
+        Ok(*self)
+    }
+}
+
+/// Adds what a binder aims at, if it is kept.
+pub(crate) fn keep_aim(found: &mut Vec<Aim>, aim: &Aim, is_kept: bool) -> Result<(), AllocError>
+    ensures { OnOk result (found.new.items ≡ found.old.items ++ grouped.one_if is_kept aim.now) }
+{
+    if is_kept {
+        found.push(*aim)?;
+    }
+    Ok(())
+}
+
 /// The lower of two numbers.
 fn lower(a: usize, b: usize) -> usize
     ensures { result ≡ (if nat_lt b a then b else a) }
@@ -231,15 +261,47 @@ fn lower(a: usize, b: usize) -> usize
     if b < a { b } else { a }
 }
 
-/// The lowest of the orders of these, and the highest that there is where there are none.
-pub(crate) fn least_order(findings: &[Finding]) -> usize
-    ensures { grouped.IsLeast (map finding_view findings.now) result }
+/// The lowest order of the first and of all others.
+fn least_order(first: &Aim, aims: &[Aim]) -> usize
+    ensures { grouped.IsLeast (first.now.order ∷ map (λ a. a.order) aims.now) result }
 {
-    let mut least = 2;
-    for finding in findings {
-        least = lower(least, finding.order());
+    let mut least = first.order;
+    for aim in aims {
+        least = lower(least, aim.order);
     }
     least
+}
+
+/// Adds what is asked for, if it is asked.
+fn keep_reference(
+    found: &mut Vec<Reference<PathId, NameId>>,
+    aim: &Aim,
+    is_asked: bool,
+) -> Result<(), AllocError>
+    ensures { OnOk result (found.new.items ≡ found.old.items ++ grouped.one_if is_asked aim.now.reference) }
+{
+    if is_asked {
+        found.push(aim.reference)?;
+    }
+    Ok(())
+}
+
+/// Adds what these ask for, those of the lowest order alone.
+pub(crate) fn add_asked(
+    found: &mut Vec<Reference<PathId, NameId>>,
+    aims: &[Aim],
+) -> Result<(), AllocError>
+    requires { found.old.items ≡ [] }
+    ensures { OnOk result (found.new.items ≡ grouped.asked_first aims.now) }
+{
+    let Some(first) = aims.first() else {
+        return Ok(());
+    };
+    let least = least_order(first, aims);
+    for aim in aims {
+        keep_reference(found, aim, aim.order == least)?;
+    }
+    Ok(())
 }
 
 /// Whether two references ask for one thing.
@@ -274,25 +336,6 @@ pub(crate) fn are_unlike(references: &[Reference<PathId, NameId>]) -> bool
     }
 }
 
-/// Adds what a binder aims at, asked for from a place, if it is asked.
-pub(crate) fn keep_aim(
-    found: &mut Vec<Reference<PathId, NameId>>,
-    binder: &Binder<PathId, NameId>,
-    from: Place,
-    is_asked: bool,
-) -> Result<(), AllocError>
-    ensures { OnOk result (found.new.items ≡ found.old.items ++ grouped.aim_if is_asked binder.now from) }
-{
-    if is_asked {
-        found.push(Reference {
-            path: binder.path,
-            name: binder.item,
-            from,
-        })?;
-    }
-    Ok(())
-}
-
 /// An import as a binder.
 pub(crate) fn binder_of(import: &Import<PathId, NameId>) -> Binder<PathId, NameId>
     ensures { result ≡ split.binder_of import.now }
@@ -304,4 +347,11 @@ pub(crate) fn binder_of(import: &Import<PathId, NameId>) -> Binder<PathId, NameI
         declares: false,
         stands: import.place,
     }
+}
+
+/// Whether two binders are one.
+pub(crate) fn is_same_binder(a: &Binder<PathId, NameId>, b: &Binder<PathId, NameId>) -> bool
+    ensures { result ≡ grouped.same_binder a.now b.now }
+{
+    has_one_target(a, b) && a.bound == b.bound && a.declares == b.declares && a.stands == b.stands
 }

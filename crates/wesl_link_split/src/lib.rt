@@ -3,4 +3,5 @@
 
 pub mod binders;
 pub mod laws;
+pub mod sight;
 pub mod split;

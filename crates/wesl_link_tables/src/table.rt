@@ -8,6 +8,7 @@ ghost use Rattle.wesl_link_tables.specs.Base.{target_path};
 ghost use Rattle.wesl_link_tables.specs.Marks.{AreMarked};
 ghost use Rattle.wesl_link_split.specs.Grouped.{ids};
 ghost use Rattle.wesl_link_split.specs.ScopeView.{scope_view};
+ghost use Rattle.wesl_link_split.specs.SightView.{sight_view};
 ghost use Rattle.wesl_link_split.specs.Split as split;
 ghost use Rattle.wesl_link_tables.specs.Numbering.{AreRelated, IsNumberedImport, AreNumberedImports, IsNumberedScope, IsNumbered, Grows, NameAt, PathAt};
 ghost use Rattle.wesl_link_tables.specs.NumbersView.{numbering};
@@ -26,6 +27,7 @@ use wesl_cond_alive::{alive_of, flags_of_unit};
 use wesl_cond_choices::alive::Alive;
 use wesl_cond_choices::place::Place;
 use wesl_link_split::binders::Binder;
+use wesl_link_split::sight::Sight;
 use wesl_link_split::split::Scope;
 use wesl_link_symbols::ids::{NameId, PathId};
 use wesl_link_symbols::symbols::Import;
@@ -355,28 +357,33 @@ struct Scoped {
     is_crowded: bool,
 }
 
-/// What the names of a unit stand for, where each name has one target; where one has several, by what choices of flags keep.
-fn with_choices(alloc: Global, scope: Scope, unit: &TranslationUnit) -> Result<Scoped, AllocError>
-    ensures scope { IfOk result (λ s. scope_view s.scope ≡ with_alive (scope_view scope) (alive_if (split.has_split ids (scope_view scope).binders) (spelled (unit_view unit.now)))) }
-    ensures crowded { IfOk result (λ s. s.is_crowded ≡ crowded_if (split.has_split ids (scope_view scope).binders) (spelled (unit_view unit.now))) }
+/// What names stand for, where choices of flags keep this.
+fn scoped_by(
+    alloc: Global,
+    sight: Sight,
+    alive: Alive,
+    is_crowded: bool,
+) -> Result<Scoped, AllocError>
+    ensures scope { IfOk result (λ s. scope_view s.scope ≡ with_alive (sight_view sight) alive) }
+    ensures crowded { IfOk result (λ s. s.is_crowded ≡ is_crowded) }
 {
-    if !scope.has_split() {
-        return Ok(Scoped {
-            scope: scope.with_alive(Alive::none()),
-            is_crowded: false,
-        });
+    let scope = Scope::new(alloc, sight, alive)?;
+    Ok(Scoped { scope, is_crowded })
+}
+
+/// What the names of a unit stand for, where each name has one target; where one has several, by what choices of flags keep.
+fn with_choices(alloc: Global, sight: Sight, unit: &TranslationUnit) -> Result<Scoped, AllocError>
+    ensures scope { IfOk result (λ s. scope_view s.scope ≡ with_alive (sight_view sight) (alive_if (split.has_split ids (sight_view sight).binders) (spelled (unit_view unit.now)))) }
+    ensures crowded { IfOk result (λ s. s.is_crowded ≡ crowded_if (split.has_split ids (sight_view sight).binders) (spelled (unit_view unit.now))) }
+{
+    if !sight.has_split() {
+        return scoped_by(alloc, sight, Alive::none(), false);
     }
     let kept = kept_of(alloc, unit)?;
-    Ok(match kept {
-        Some(alive) => Scoped {
-            scope: scope.with_alive(alive),
-            is_crowded: false,
-        },
-        None => Scoped {
-            scope: scope.with_alive(Alive::none()),
-            is_crowded: true,
-        },
-    })
+    match kept {
+        Some(alive) => scoped_by(alloc, sight, alive, false),
+        None => scoped_by(alloc, sight, Alive::none(), true),
+    }
 }
 
 /// What the names of a unit stand for that stands at the path with this number, and has these numbers.
@@ -389,8 +396,8 @@ fn scoped_of(
     ensures { IfOk result (λ s. IsScoped id numbered.now (spelled (unit_view unit.now)) s) }
 {
     let binders = binders_of(alloc, id, &numbered.names, &numbered.imports)?;
-    let scope = Scope::new(alloc, id, binders)?;
-    with_choices(alloc, scope, unit)
+    let sight = Sight::new(alloc, id, binders)?;
+    with_choices(alloc, sight, unit)
 }
 
 /// An import as the table of its module has it.

@@ -1,26 +1,33 @@
-use Rattle.std.proofs.Common.{◌≡◌, ℕ, ◌∙◌, ◌+◌, ◌++◌, ◌∷◌, [], ap, subst, sym, map, take}
+use Rattle.std.proofs.Common.{◌≡◌, ℕ, ◌∙◌, ◌+◌, List, ◌++◌, ◌∷◌, [], ap, subst, sym, map, take, get_or}
 use Rattle.std.specs.Prelude.{nat_lt, if◌then◌else◌}
 use Rattle.std.proofs.lemmas.List.{map-append}
-use Rattle.wesl_link_split.specs.Grouped.{IsLeast, finding_view, ids}
-use Rattle.wesl_link_split.specs.Split.{order_of}
-use Rattle.wesl_link_split.proofs.Lists.{taken_all, take_next}
-use Rattle.wesl_link_split.proofs.Orders.{least_none, least_next}
+use Rattle.wesl_cond_choices.specs.declared.place.Place.TheVariants.{Always}
+use Rattle.wesl_link_split.specs.Grouped.{IsLeast}
+use Rattle.wesl_link_split.specs.declared.binders.Aim.{Aim}
+use Rattle.wesl_link_split.proofs.Lists.{taken_all, take_one}
+use Rattle.wesl_link_split.proofs.Orders.{least_one, least_next}
 use Rattle.wesl_link_split.proofs.binders.least_order.Goals as goal
 
-pub loop-finding-init : goal.loop-finding-init
-loop-finding-init c = least_none
+-- what stands where a list has nothing
+abbrev any_aim : Aim
+any_aim = record { reference = record { path = record { 0 = 0 }; name = record { 0 = 0 }; from = Always }; order = 0 }
 
-pub loop-finding-preserved : goal.loop-finding-preserved
-loop-finding-preserved c =
-    let fs = c.args.findings.now in
-    let i : ℕ = c.loop-finding.finding-index in
-    let n : ℕ = c.loop-finding.least in
-    let x = c.finding-item.result in
-    let lower_is : c.lower-least.result ≡ (if nat_lt (order_of ids (finding_view x)) n then order_of ids (finding_view x) else n) = c.lower-least.ensures ∙ ap (λ o. if nat_lt o n then o else n) c.order.ensures in
-    let more : map finding_view (take (i + 1) fs) ≡ map finding_view (take i fs) ++ finding_view x ∷ [] =
-    ap (map finding_view) (take_next fs i x c.loop-finding-test.true c.finding-item.is) ∙ map-append finding_view (take i fs) (x ∷ []) in
-    subst (λ m. IsLeast (map finding_view (take (i + 1) fs)) m) (sym lower_is)
-    (subst (λ gs. IsLeast gs (if nat_lt (order_of ids (finding_view x)) n then order_of ids (finding_view x) else n)) (sym more) (least_next (map finding_view (take i fs)) (finding_view x) n c.loop-finding.invariant))
+pub loop-aim-init : goal.loop-aim-init
+loop-aim-init c = least_one c.args.first.now.order
+
+pub loop-aim-preserved : goal.loop-aim-preserved
+loop-aim-preserved c =
+    let xs = c.args.aims.now in
+    let i : ℕ = c.loop-aim.aim-index in
+    let n : ℕ = c.loop-aim.least in
+    let o : ℕ = c.args.first.now.order in
+    let x : Aim = get_or xs i any_aim in
+    let order : Aim → ℕ = λ a. a.order in
+    let more : map order (take (i + 1) xs) ≡ map order (take i xs) ++ x.order ∷ [] =
+    ap (map order) (take_one xs i any_aim c.loop-aim-test.true) ∙ map-append order (take i xs) (x ∷ []) in
+    subst (λ m. IsLeast (o ∷ map order (take (i + 1) xs)) m) (sym c.lower-least.ensures)
+    (subst (λ (ns : List ℕ). IsLeast (o ∷ ns) (if nat_lt x.order n then x.order else n)) (sym more) (least_next (o ∷ map order (take i xs)) x.order n c.loop-aim.invariant))
 
 pub returns : goal.returns
-returns c = subst (λ fs. IsLeast (map finding_view fs) c.loop-finding.least) (taken_all c.args.findings.now c.loop-finding.finding-index c.loop-finding-test.false) c.loop-finding.invariant
+returns c =
+    subst (λ xs. IsLeast (c.args.first.now.order ∷ map (λ a. a.order) xs) c.loop-aim.least) (taken_all c.args.aims.now c.loop-aim.aim-index c.loop-aim-test.false) c.loop-aim.invariant

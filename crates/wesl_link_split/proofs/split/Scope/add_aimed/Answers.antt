@@ -1,4 +1,4 @@
-use Rattle.std.proofs.Common.{◌≡◌, ◌∙◌, ◌++◌, ◌∷◌, [], List, All, ap, sym, subst}
+use Rattle.std.proofs.Common.{◌∙◌, ◌++◌, ◌∷◌, [], ap, sym, map}
 use Rattle.std.specs.List.{filter}
 use Rattle.wesl_cond_choices.specs.declared.place.Place.{Place}
 use Rattle.wesl_tree_base.specs.declared.ids.NameId.{NameId}
@@ -6,9 +6,9 @@ use Rattle.wesl_link_symbols.specs.declared.ids.PathId.{PathId}
 use Rattle.wesl_link_symbols.specs.declared.symbols.Reference.{Reference}
 use Rattle.wesl_link_split.specs.Grouped.{ids}
 use Rattle.wesl_link_split.specs.ScopeView.{scope_view}
-use Rattle.wesl_link_split.specs.Split.{Binder, aimed_of}
+use Rattle.wesl_link_split.specs.Split.{aimed_of, aim_of, lowest}
 use Rattle.wesl_link_split.proofs.Lists.{on_ok}
-use Rattle.wesl_link_split.proofs.Unsplit.{aimed_declared, aimed_imported, seen_named}
+use Rattle.wesl_link_split.proofs.Unsplit.{aimed_declared, aimed_imported}
 use Rattle.wesl_link_split.proofs.split.Scope.add_aimed.Goals as goal
 
 pub returns-then-has_declaration : goal.returns-then-has_declaration
@@ -21,12 +21,9 @@ returns-then-has_declaration c =
     ∙ (sym (aimed_declared s c.args.name c.args.here c.args.seen.now (sym c.has_declaration.ensures ∙ c.if-has_declaration.true))
     ∙ ap (λ bs. aimed_of ids s c.args.name c.args.here (filter (λ b. b.declares) bs) bs) c.requires.seen)))
 
-pub add_aims-requires-clause-named : goal.add_aims-requires-clause-named
-add_aims-requires-clause-named c =
-    subst (λ (bs : List (Binder PathId NameId)). All (λ b. b.bound ≡ c.args.name) bs) (sym c.requires.seen) (seen_named (scope_view c.args.self.now) c.args.name c.args.here)
-
 pub returns : goal.returns
 returns c =
     let s = scope_view c.args.self.now in
-    on_ok c.add_aims.result (λ e. e ∙ (sym (aimed_imported s c.args.name c.args.here c.args.seen.now (sym c.has_declaration.ensures ∙ c.if-has_declaration.false))
-    ∙ ap (λ bs. aimed_of ids s c.args.name c.args.here (filter (λ b. b.declares) bs) bs) c.requires.seen)) c.add_aims.ensures
+    on_ok c.add_aims.result (λ e. e ∙ (ap (λ bs. map (aim_of ids s) (lowest ids s bs)) (sym c.requires.seen)
+    ∙ (sym (aimed_imported s c.args.name c.args.here c.args.seen.now (sym c.has_declaration.ensures ∙ c.if-has_declaration.false))
+    ∙ ap (λ bs. aimed_of ids s c.args.name c.args.here (filter (λ b. b.declares) bs) bs) c.requires.seen))) c.add_aims.ensures

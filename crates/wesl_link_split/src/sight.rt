@@ -1,0 +1,571 @@
+//! The binders of a module by their names, which of them are seen from a place, and what they aim at, by numbers (WESL,
+//! "Imports" and "ConditionalTranslation").
+ghost use Rattle.std.specs.Prelude.{◌≡◌, ◌++◌, [], if◌then◌else◌, length, map, take, IfOk, OnOk};
+ghost use Rattle.std.specs.List.{list_any};
+ghost use Rattle.wesl_link_split.specs.Grouped as listed;
+ghost use Rattle.wesl_link_split.specs.Grouped.{ids, finding_view, AreGrouped, GroupsNext, IsStart};
+ghost use Rattle.wesl_link_split.specs.Split as split;
+
+use crate::binders::{
+    Aim, Binder, Facts, Finding, Start, asks_for, facts_of, has_declaration, has_two_targets, keep,
+    placed, start_of,
+};
+use indexmap::IndexSet;
+use std::alloc::{AllocError, Global};
+use wesl_cond_choices::alive::Alive;
+use wesl_cond_choices::place::Place;
+use wesl_link_symbols::ids::{NameId, PathId};
+use wesl_link_symbols::symbols::Reference;
+
+/// Puts a binder to those of its name.
+fn add_to_group(
+    alloc: Global,
+    names: &mut IndexSet<NameId>,
+    groups: &mut Vec<Vec<Binder<PathId, NameId>>>,
+    binder: &Binder<PathId, NameId>,
+) -> Result<(), AllocError>
+    requires { length groups.old.items ≡ length names.old.keys }
+    ensures { OnOk result (GroupsNext names.old.keys groups.old.items binder.now names.new.keys groups.new.items) }
+{
+    if let Some(index) = names.get_index_of(&binder.bound) {
+        groups[index].push(*binder)?;
+        return Ok(());
+    }
+    let mut group = Vec::new(alloc);
+    group.push(*binder)?;
+    names.insert(binder.bound)?;
+    groups.push(group)?;
+    Ok(())
+}
+
+/// The binders of a module: its declarations in order, then its imports in order, found by their names; and which places
+/// some choice of flags keeps together.
+#[derive(Drop)]
+pub struct Sight {
+    pub(crate) own: PathId,
+    binders: Vec<Binder<PathId, NameId>>,
+    // Each bound name once, of each the binders, in order, and what is asked of these.
+    pub(crate) names: IndexSet<NameId>,
+    groups: Vec<Vec<Binder<PathId, NameId>>>,
+    facts: Vec<Facts>,
+    is_any_split: bool,
+    alive: Alive,
+    pub ghost grouped: { AreGrouped binders.items names.keys groups.items },
+    pub ghost facts_are: { facts.items ≡ map (λ g. listed.facts_of g.items) groups.items },
+    pub ghost split: { is_any_split ≡ split.has_split ids binders.items },
+}
+
+/// Puts each of these binders to those of its name. It holds nothing, so where memory is wanting nothing is let go.
+fn add_groups(
+    alloc: Global,
+    names: &mut IndexSet<NameId>,
+    groups: &mut Vec<Vec<Binder<PathId, NameId>>>,
+    binders: &[Binder<PathId, NameId>],
+) -> Result<(), AllocError>
+    requires names { names.old.keys ≡ [] }
+    requires groups { groups.old.items ≡ [] }
+    ensures { OnOk result (AreGrouped binders.now names.new.keys groups.new.items) }
+{
+    for binder in binders {
+        add_to_group(alloc, names, groups, binder)?;
+    }
+    Ok(())
+}
+
+/// Adds what is asked of the binders of each name.
+fn add_facts(
+    facts: &mut Vec<Facts>,
+    groups: &[Vec<Binder<PathId, NameId>>],
+) -> Result<(), AllocError>
+    requires { facts.old.items ≡ [] }
+    ensures { OnOk result (facts.new.items ≡ map (λ g. listed.facts_of g.items) groups.now) }
+{
+    for group in groups {
+        facts.push(facts_of(group))?;
+    }
+    Ok(())
+}
+
+/// Whether the binders of some name have several targets.
+fn is_any_split(facts: &[Facts]) -> bool
+    ensures { result ≡ list_any (λ f. f.is_split) facts.now }
+{
+    for one in facts {
+        if one.is_split {
+            return true;
+        }
+    }
+    false
+}
+
+impl Sight {
+    ghost use Rattle.wesl_link_split.specs.SightView.{aim_in, sight_view, whole, AreAims, IsGroup};
+
+    /// The module with this path and these binders, of which no choice of flags is known yet. Refused for want of memory
+    /// alone.
+    pub fn new(
+        alloc: Global,
+        own: PathId,
+        binders: Vec<Binder<PathId, NameId>>,
+    ) -> Result<Sight, AllocError>
+        ensures { IfOk result (λ s. sight_view s ≡ record { own = own; binders = binders.items; alive = [] }) }
+    {
+        let mut names = IndexSet::new(alloc);
+        let mut groups = Vec::new(alloc);
+        add_groups(alloc, &mut names, &mut groups, &binders)?;
+        let mut facts = Vec::new(alloc);
+        add_facts(&mut facts, &groups)?;
+        let is_any_split = is_any_split(&facts);
+        Ok(Sight {
+            own,
+            binders,
+            names,
+            groups,
+            facts,
+            is_any_split,
+            alive: Alive::none(),
+        })
+    }
+
+    /// The same module, of which some choice of flags keeps these places together.
+    pub(crate) fn with_alive(self, alive: Alive) -> Sight
+        ensures { sight_view result ≡ record { own = (sight_view self).own; binders = (sight_view self).binders; alive = alive } }
+    {
+        let Sight {
+            own,
+            binders,
+            names,
+            groups,
+            facts,
+            is_any_split,
+            alive: _,
+        } = self;
+        Sight {
+            own,
+            binders,
+            names,
+            groups,
+            facts,
+            is_any_split,
+            alive,
+        }
+    }
+
+    /// What some choice of flags keeps together.
+    pub(crate) fn into_alive(self) -> Alive
+        ensures { result ≡ (sight_view self).alive }
+    {
+        self.alive
+    }
+
+    /// Whether a name of the module has several targets.
+    pub fn has_split(&self) -> bool
+        ensures { result ≡ split.has_split ids (sight_view self.now).binders }
+    {
+        self.is_any_split
+    }
+
+    /// The binders of a name.
+    pub(crate) fn group(&self, name: NameId) -> &[Binder<PathId, NameId>]
+        ensures { result.now ≡ split.of_name ids name (sight_view self.now).binders }
+    {
+        match self.names.get_index_of(&name) {
+            Some(index) => &self.groups[index],
+            None => &[],
+        }
+    }
+
+    /// What is asked of the binders of a name.
+    fn facts(&self, name: NameId) -> Facts
+        ensures { result ≡ listed.facts_of (split.of_name ids name (sight_view self.now).binders) }
+    {
+        match self.names.get_index_of(&name) {
+            Some(index) => self.facts[index],
+            None => Facts {
+                is_split: false,
+                declares: false,
+                import: None,
+            },
+        }
+    }
+
+    /// Whether the binders of a name have several targets.
+    pub(crate) fn is_split(&self, name: NameId) -> bool
+        ensures { result ≡ split.is_split ids (sight_view self.now).binders name }
+    {
+        self.facts(name).is_split
+    }
+
+    /// Where a binder of a name is seen from that stands there: everywhere, where the name has one target.
+    pub(crate) fn place_at(&self, name: NameId, stands: Place) -> Place
+        ensures { result ≡ split.place_at ids (sight_view self.now) name stands }
+    {
+        placed(self.is_split(name), stands)
+    }
+
+    /// Where a declaration is seen from that stands there, and binds this name, if it binds one.
+    pub(crate) fn place_of(&self, name: Option<NameId>, stands: Place) -> Place
+        ensures { result ≡ split.place_of ids (sight_view self.now) name stands }
+    {
+        match name {
+            Some(name) => self.place_at(name, stands),
+            None => Place::Always,
+        }
+    }
+
+    /// Whether what stands at a place is seen from another.
+    pub(crate) fn sees(&self, from: Place, place: Place) -> bool
+        ensures { result ≡ split.sees ids (sight_view self.now) from place }
+    {
+        place == Place::Always || self.alive.together(from, place)
+    }
+
+    /// Adds the binders of a name that are seen from a place.
+    fn add_seen(
+        &self,
+        found: &mut Vec<Binder<PathId, NameId>>,
+        name: NameId,
+        from: Place,
+    ) -> Result<(), AllocError>
+        requires { found.old.items ≡ [] }
+        ensures { OnOk result (found.new.items ≡ split.seen ids (sight_view self.now) name from) }
+    {
+        let group = self.group(name);
+        let is_split = has_two_targets(group);
+        for binder in group {
+            let is_seen = self.sees(from, placed(is_split, binder.stands));
+            keep(found, binder, is_seen)?;
+        }
+        Ok(())
+    }
+
+    /// The binders of a name that are seen from a place.
+    pub(crate) fn seen(
+        &self,
+        alloc: Global,
+        name: NameId,
+        from: Place,
+    ) -> Result<Vec<Binder<PathId, NameId>>, AllocError>
+        ensures { IfOk result (λ v. v.items ≡ split.seen ids (sight_view self.now) name from) }
+    {
+        let mut found = Vec::new(alloc);
+        self.add_seen(&mut found, name, from)?;
+        Ok(found)
+    }
+
+    /// Adds of each binder of a name whether it is seen from a place.
+    fn add_sight(&self, found: &mut Vec<bool>, name: NameId, from: Place) -> Result<(), AllocError>
+        requires { found.old.items ≡ [] }
+        ensures { OnOk result (found.new.items ≡ split.sight ids (sight_view self.now) name from) }
+    {
+        let group = self.group(name);
+        let is_split = has_two_targets(group);
+        for binder in group {
+            found.push(self.sees(from, placed(is_split, binder.stands)))?;
+        }
+        Ok(())
+    }
+
+    /// Whether a name has several targets in this very module, and the path is its own.
+    fn is_own_split(&self, path: PathId, name: NameId) -> bool
+        ensures { result ≡ split.is_own_split ids (sight_view self.now) path name }
+    {
+        path == self.own && self.is_split(name)
+    }
+
+    /// Where a name is asked for from that is used at `here`, in the module at a path.
+    pub(crate) fn asked_at(&self, path: PathId, name: NameId, here: Place) -> Place
+        ensures { result ≡ split.asked_at ids (sight_view self.now) path name here }
+    {
+        if self.is_own_split(path, name) {
+            here
+        } else {
+            Place::Always
+        }
+    }
+
+    // ---- what the imports of the module find
+
+    /// Whether a binder is an import whose target has several targets in this module.
+    fn leads_on(&self, binder: &Binder<PathId, NameId>) -> bool
+        ensures { result ≡ split.leads_on ids (sight_view self.now) binder.now }
+    {
+        !binder.declares && self.is_own_split(binder.path, binder.item)
+    }
+
+    /// Which binders of its target a binder sees, if that counts.
+    fn sight_if(
+        &self,
+        alloc: Global,
+        counts: bool,
+        binder: &Binder<PathId, NameId>,
+    ) -> Result<Vec<bool>, AllocError>
+        ensures { IfOk result (λ v. v.items ≡ (if counts then split.sight ids (sight_view self.now) binder.now.item binder.now.stands else [])) }
+    {
+        let mut sight = Vec::new(alloc);
+        if counts {
+            self.add_sight(&mut sight, binder.item, binder.stands)?;
+        }
+        Ok(sight)
+    }
+
+    /// What a binder finds that sees these binders of its target.
+    fn found_of(
+        &self,
+        alloc: Global,
+        binder: &Binder<PathId, NameId>,
+        seen: &[Binder<PathId, NameId>],
+    ) -> Result<Finding, AllocError>
+        ensures { IfOk result (λ f. finding_view f ≡ split.found_of ids (sight_view self.now) binder.now seen.now) }
+    {
+        let Some(first) = seen.first() else {
+            return Ok(Finding::Nothing);
+        };
+        if has_two_targets(seen) {
+            return Ok(Finding::Several);
+        }
+        let sight = self.sight_if(alloc, self.leads_on(first), binder)?;
+        Ok(Finding::One(first.path, first.item, sight))
+    }
+
+    /// How a binder finds what it aims at.
+    fn finding(&self, alloc: Global, binder: &Binder<PathId, NameId>) -> Result<Finding, AllocError>
+        ensures { IfOk result (λ f. finding_view f ≡ split.finding ids (sight_view self.now) binder.now) }
+    {
+        if !self.is_own_split(binder.path, binder.item) {
+            return Ok(Finding::One(binder.path, binder.item, Vec::new(alloc)));
+        }
+        let seen = self.seen(alloc, binder.item, binder.stands)?;
+        self.found_of(alloc, binder, &seen)
+    }
+
+    /// Adds how each of these binders finds what it aims at.
+    fn add_findings(
+        &self,
+        alloc: Global,
+        found: &mut Vec<Finding>,
+        group: &[Binder<PathId, NameId>],
+    ) -> Result<(), AllocError>
+        requires { found.old.items ≡ [] }
+        ensures { OnOk result (map finding_view found.new.items ≡ map (split.finding ids (sight_view self.now)) group.now) }
+    {
+        for binder in group {
+            let finding = self.finding(alloc, binder)?;
+            found.push(finding)?;
+        }
+        Ok(())
+    }
+
+    /// Where the first import stands that asks for a binder of its name which finds what it aims at so: itself at the latest.
+    fn asker_stands(
+        &self,
+        group: &[Binder<PathId, NameId>],
+        findings: &[Finding],
+        binder: &Binder<PathId, NameId>,
+        finding: &Finding,
+    ) -> Place
+        requires group { group.now ≡ split.of_name ids binder.now.bound (sight_view self.now).binders }
+        requires findings { map finding_view findings.now ≡ map (split.finding ids (sight_view self.now)) group.now }
+        requires finding { finding_view finding.now ≡ split.finding ids (sight_view self.now) binder.now }
+        ensures { result ≡ (split.asker_of ids (sight_view self.now) binder.now).stands }
+    {
+        for i in 0..group.len() {
+            if asks_for(binder, finding, &group[i], &findings[i]) {
+                return group[i].stands;
+            }
+        }
+        binder.stands
+    }
+
+    /// Where a binder asks from that finds what it aims at so, among the binders of its name and what they find.
+    fn from_of(
+        &self,
+        group: &[Binder<PathId, NameId>],
+        findings: &[Finding],
+        binder: &Binder<PathId, NameId>,
+        finding: &Finding,
+    ) -> Place
+        requires group { group.now ≡ split.of_name ids binder.now.bound (sight_view self.now).binders }
+        requires findings { map finding_view findings.now ≡ map (split.finding ids (sight_view self.now)) group.now }
+        requires finding { finding_view finding.now ≡ split.finding ids (sight_view self.now) binder.now }
+        ensures { result ≡ split.from_of ids (sight_view self.now) binder.now }
+    {
+        if self.is_own_split(binder.path, binder.item) {
+            self.asker_stands(group, findings, binder, finding)
+        } else {
+            Place::Always
+        }
+    }
+
+    /// How each of these binders finds what it aims at.
+    fn findings(
+        &self,
+        alloc: Global,
+        group: &[Binder<PathId, NameId>],
+    ) -> Result<Vec<Finding>, AllocError>
+        ensures { IfOk result (λ v. map finding_view v.items ≡ map (split.finding ids (sight_view self.now)) group.now) }
+    {
+        let mut found = Vec::new(alloc);
+        self.add_findings(alloc, &mut found, group)?;
+        Ok(found)
+    }
+
+    /// Adds what a name without a path asks for where each name has one target: its module's own declaration, else what the
+    /// first import of the name aims at, which all of them do.
+    pub(crate) fn add_whole(
+        &self,
+        found: &mut Vec<Reference<PathId, NameId>>,
+        name: NameId,
+    ) -> Result<(), AllocError>
+        ensures { OnOk result (found.new.items ≡ found.old.items ++ take 1 (whole (sight_view self.now) name)) }
+    {
+        if self.facts(name).declares {
+            found.push(Reference {
+                path: self.own,
+                name,
+                from: Place::Always,
+            })?;
+            return Ok(());
+        }
+        let Some(binder) = self.group(name).first() else {
+            return Ok(());
+        };
+        found.push(Reference {
+            path: binder.path,
+            name: binder.item,
+            from: Place::Always,
+        })?;
+        Ok(())
+    }
+
+    /// Adds the imports of a name that are seen from a place.
+    fn add_imports(
+        &self,
+        found: &mut Vec<Binder<PathId, NameId>>,
+        name: NameId,
+        here: Place,
+    ) -> Result<(), AllocError>
+        requires { found.old.items ≡ [] }
+        ensures { OnOk result (found.new.items ≡ split.seen_imports ids (sight_view self.now) name here) }
+    {
+        let group = self.group(name);
+        let is_split = has_two_targets(group);
+        for binder in group {
+            let is_seen = self.sees(here, placed(is_split, binder.stands));
+            keep(found, binder, is_seen && !binder.declares)?;
+        }
+        Ok(())
+    }
+
+    /// The imports of a name that are seen from a place.
+    fn seen_imports(
+        &self,
+        alloc: Global,
+        name: NameId,
+        here: Place,
+    ) -> Result<Vec<Binder<PathId, NameId>>, AllocError>
+        ensures { IfOk result (λ v. v.items ≡ split.seen_imports ids (sight_view self.now) name here) }
+    {
+        let mut found = Vec::new(alloc);
+        self.add_imports(&mut found, name, here)?;
+        Ok(found)
+    }
+
+    /// With what a path begins that begins with a name and is used at `here`. Refused for want of memory alone.
+    pub(crate) fn start(
+        &self,
+        alloc: Global,
+        name: NameId,
+        here: Place,
+    ) -> Result<Start, AllocError>
+        ensures { IfOk result (λ s. IsStart s (split.seen_imports ids (sight_view self.now) name here)) }
+    {
+        let facts = self.facts(name);
+        if facts.is_split {
+            let imports = self.seen_imports(alloc, name, here)?;
+            return Ok(start_of(&imports));
+        }
+        match facts.import {
+            Some(import) => Ok(Start::One(import)),
+            None => Ok(Start::Nothing),
+        }
+    }
+
+    // ---- what the binders of the module aim at
+
+    /// What a binder aims at, among the binders of its name and what these find.
+    fn aim(
+        &self,
+        group: &[Binder<PathId, NameId>],
+        findings: &[Finding],
+        binder: &Binder<PathId, NameId>,
+        finding: &Finding,
+    ) -> Aim
+        requires group { group.now ≡ split.of_name ids binder.now.bound (sight_view self.now).binders }
+        requires findings { map finding_view findings.now ≡ map (split.finding ids (sight_view self.now)) group.now }
+        requires finding { finding_view finding.now ≡ split.finding ids (sight_view self.now) binder.now }
+        ensures { result ≡ aim_in (sight_view self.now) binder.now }
+    {
+        Aim {
+            reference: Reference {
+                path: binder.path,
+                name: binder.item,
+                from: self.from_of(group, findings, binder, finding),
+            },
+            order: finding.order(),
+        }
+    }
+
+    /// What a binder aims at, which may be none of the module's.
+    pub(crate) fn aim_of(
+        &self,
+        alloc: Global,
+        binder: &Binder<PathId, NameId>,
+    ) -> Result<Aim, AllocError>
+        ensures { IfOk result (λ a. a ≡ aim_in (sight_view self.now) binder.now) }
+    {
+        let group = self.group(binder.bound);
+        let findings = self.findings(alloc, group)?;
+        let finding = self.finding(alloc, binder)?;
+        Ok(self.aim(group, &findings, binder, &finding))
+    }
+
+    /// Adds what each of the binders of a name aims at.
+    fn add_aims(
+        &self,
+        alloc: Global,
+        aims: &mut Vec<Aim>,
+        group: &[Binder<PathId, NameId>],
+    ) -> Result<(), AllocError>
+        requires group { IsGroup (sight_view self.now) group.now }
+        requires empty { aims.old.items ≡ [] }
+        ensures { OnOk result (aims.new.items ≡ map (aim_in (sight_view self.now)) group.now) }
+    {
+        let findings = self.findings(alloc, group)?;
+        for i in 0..group.len() {
+            let aim = self.aim(group, &findings, &group[i], &findings[i]);
+            aims.push(aim)?;
+        }
+        Ok(())
+    }
+
+    /// Adds of each bound name what its binders aim at, where some name of the module has several targets.
+    pub(crate) fn add_all_aims(
+        &self,
+        alloc: Global,
+        all: &mut Vec<Vec<Aim>>,
+    ) -> Result<(), AllocError>
+        requires { all.old.items ≡ [] }
+        ensures { OnOk result (AreAims self.now all.new.items) }
+    {
+        if !self.is_any_split {
+            return Ok(());
+        }
+        for group in &self.groups {
+            let mut aims = Vec::with_capacity(alloc, group.len())?;
+            self.add_aims(alloc, &mut aims, group)?;
+            all.push(aims)?;
+        }
+        Ok(())
+    }
+}
