@@ -17,3 +17,4 @@ pub mod Scoping
 pub mod Tabling
 pub mod Looked
 pub mod Placed
+pub mod Askers

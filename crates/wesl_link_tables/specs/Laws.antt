@@ -1,13 +1,32 @@
--- Laws of declarations.
-use Rattle.std.specs.Prelude.{◌≡◌, map}
+-- Laws of declarations and of imports.
+use Rattle.std.specs.Prelude.{◌≡◌, ◌↔◌, Some, map, Contains}
 use Rattle.wesl_tree_names.specs.Path.{Text, Path}
 use Rattle.wesl_tree_syntax.specs.Tree.{before, end, identifiers, kind, declarations}
 use Rattle.wesl_tree_syntax.specs.Unit.{UnitOf}
 use Rattle.wesl_scope_occurrences.specs.Pieces.{declarations_in}
-use Rattle.wesl_link_tables.specs.Tables.{uses}
-use Rattle.wesl_link_tables.specs.Uses.{use_name}
+use Rattle.wesl_cond_choices.specs.declared.place.Place.{Place}
+use Rattle.wesl_link_symbols.specs.Names.{Answers}
+use Rattle.wesl_link_symbols.specs.declared.symbols.Answer.{Answer}
+use Rattle.wesl_link_symbols.specs.declared.symbols.Import.{Import}
+use Rattle.wesl_link_symbols.specs.declared.symbols.LookUp.{LookUp}
+use Rattle.wesl_link_split.specs.Split.{settled}
+use Rattle.wesl_link_tables.specs.Imports.{imports}
+use Rattle.wesl_link_tables.specs.Tables.{scope_of, table_at, uses}
+use Rattle.wesl_link_tables.specs.Uses.{use_name, texts}
 
 -- each identifier of a declaration stands once
 abbrev pub UsesAreIdentifiers : Type 0
 UsesAreIdentifiers = (own : Path) (u : UnitOf Text) → u.declarations.label ≡ kind declarations
     → map (map use_name) (uses own u) ≡ map (λ t. identifiers (before t end)) (declarations_in u)
+
+-- the look-up of a name in the module at a path, asked by this module itself from one of its places
+abbrev pub own_look_up : {P N : Type 0} → P → N → Place → LookUp P N
+own_look_up own n from = record { asker = Some own; path = own; name = n; from = from }
+
+-- What an import asks for that aims at a name of its own module is answered from where it asks as from where it stands.
+abbrev pub ImportsAskAsThemselves : Type 0
+ImportsAskAsThemselves =
+    (own : Path) (u : UnitOf Text) (i : Import Path Text) → Contains (imports own u) i → i.path ≡ own
+    → (a : Answer Path Text)
+    → Answers (table_at own u) (own_look_up own i.item (settled texts (scope_of own u) i).from) a
+    ↔ Answers (table_at own u) (own_look_up own i.item i.place) a
