@@ -72,10 +72,6 @@ module _ {I : Type 0} where
   names_tree (ident r x) c o = refl
   names_tree l c o = refl
 
-  pub named_same : (l : LabelOf I) (c d : ForestOf I) → identifiers c ≡ identifiers d → named l c ≡ named l d
-  named_same (ident r x) c d e = refl
-  named_same l c d e = e
-
   pub names_beside : (l : LabelOf I) (c o p : ForestOf I) → identifiers o ≡ identifiers p → identifiers (tree l c o) ≡ identifiers (tree l c p)
   names_beside l c o p e = names_tree l c o ∙ ap (λ xs. named l c ++ xs) e ∙ sym (names_tree l c p)
 

@@ -150,9 +150,6 @@ module _ {I : Type 0} where
       not_void : (n : N) (b : Bool) → (outline n).is_void ≡ b → is_node J n ≡ not b
       not_void n b e = ap not (told.voids n ∙ e)
 
-      front_at : (n : N) (c : List N) (cs : List (List N)) (b : Bool) → is_branch J n ≡ b → front ((n ∷ c) ∷ cs) ≡ cond b (n ∷ c) []
-      front_at n c cs b e = rw e refl
-
       rest_at : (opened : Bool) (n : N) (ns : List N) (v f : Bool) → (outline n).is_void ≡ v → follows_on (outline n).condition ≡ f
           → ((o : Bool) → is_rest_sound o (map outline ns) ≡ is_faultless (faults_of o (front (chains_of ns))))
           → is_rest_sound opened (map outline (n ∷ ns)) ≡ is_faultless (faults_of opened (front (chains_of (n ∷ ns))))

@@ -4,8 +4,8 @@ use mathlib.Core.List.{map-map}
 use Rattle.std.specs.Prelude.{Option, Some, None}
 use Rattle.std.specs.Box.{box_value}
 use Rattle.std.specs.Global.{Box, Vec}
-use Rattle.wesl_tree_syntax.specs.Tree.{assignment, binary, branch, call, call_expression, call_statement, clauses, compound, compound_statement, continuing, else_clause, else_if_clause, for_loop, forest_of, if_clause, if_statement, indexing, list, loop, named_component, parenthesized, return, statements, switch, switch_clause, Tree, type_or_identifier, unary, while_loop, template_argument, import_entry, reference, type_expression}
-use Rattle.wesl_tree_syntax.specs.View.{text_tree, break_if_view, continuing_view, expression_view, selector_view, argument_step, attributes_tree, call_step, call_view, clause_step, clause_view, compound_step, compound_view, continuing_step, else_if_step, else_if_view, else_step, else_view, expression_step, expression_tree, if_step, if_view, listed, optional, statement_step, statement_tree, statement_view, type_step, type_view, argument_view, entry_view, content_view, content_step, entry_step, names_tree, boxed_path, ident_tree, declaration_view, assert_view}
+use Rattle.wesl_tree_syntax.specs.Tree.{assignment, binary, branch, call, call_expression, call_statement, clauses, compound, continuing, else_clause, else_if_clause, for_loop, forest_of, if_clause, if_statement, indexing, list, loop, named_component, parenthesized, return, statements, switch, switch_clause, Tree, type_or_identifier, unary, while_loop, template_argument, import_entry, reference, type_expression}
+use Rattle.wesl_tree_syntax.specs.View.{text_tree, break_if_view, continuing_view, expression_view, selector_view, argument_step, attributes_tree, call_step, call_view, clause_step, clause_view, compound_step, compound_view, continuing_step, else_if_step, else_if_view, else_step, else_view, expression_step, expression_tree, if_step, if_view, listed, optional, statement_step, statement_tree, statement_view, type_step, type_view, argument_view, entry_view, content_view, content_step, entry_step, names_tree, boxed_path, ident_tree}
 use Rattle.wesl_tree_syntax.specs.declared.attribute.Attribute.{Attribute}
 use Rattle.wesl_tree_syntax.specs.declared.expression.Expression.{Expression}
 use Rattle.wesl_tree_syntax.specs.declared.expression.Expression as expressions
@@ -17,8 +17,6 @@ use Rattle.wesl_tree_syntax.specs.declared.expression.FunctionCall.{FunctionCall
 use Rattle.wesl_tree_syntax.specs.declared.expression.UnaryOperator.{UnaryOperator}
 use Rattle.wesl_tree_syntax.specs.declared.expression.BinaryOperator.{BinaryOperator}
 use Rattle.wesl_tree_syntax.specs.declared.expression.TypeExpression.{TypeExpression, out-TypeExpression}
-use Rattle.wesl_tree_syntax.specs.declared.declaration.ConstAssert.{ConstAssert}
-use Rattle.wesl_tree_syntax.specs.declared.declaration.Declaration.{Declaration}
 use Rattle.wesl_tree_syntax.specs.declared.span.Spanned.{Spanned}
 use Rattle.wesl_tree_syntax.specs.declared.statement.CompoundStatement.{CompoundStatement, out-CompoundStatement}
 use Rattle.wesl_tree_syntax.specs.declared.statement.AssignmentOperator.{AssignmentOperator}
@@ -80,9 +78,6 @@ view_named_type t = search (rules, expressions.the_lemmas)
 
 -- statements
 
-pub view_block : (b : CompoundStatement) → statement_view (made.Compound b) ≡ branch compound_statement (compound_view b ∷ [])
-view_block b = search (rules, the_lemmas)
-
 pub view_assignment : (a : Vec (Spanned Attribute)) (o : AssignmentOperator) (l r : Spanned Expression)
     → statement_view (made.Assignment a o l r) ≡ record { label = assignment o; children = forest_of (attributes_tree a ∷ expression_tree l ∷ expression_tree r ∷ []) }
 view_assignment a o l r = search (rules, the_lemmas)
@@ -123,9 +118,3 @@ pub view_type : (t : TypeExpression) (o : Option (Vec TemplateArg)) → (out-Typ
     → type_view t ≡ branch type_expression (optional boxed_path (out-TypeExpression t).path ∷ ident_tree reference (out-TypeExpression t).ident ∷ optional (listed argument_view list) o ∷ [])
 view_type t None is = fold_out-TypeExpression Tree Tree Tree Tree expression_step call_step argument_step type_step t ∙ rw is refl
 view_type t (Some v) is = fold_out-TypeExpression Tree Tree Tree Tree expression_step call_step argument_step type_step t ∙ rw is (simp map-map)
-
-pub view_asserted : (a : ConstAssert) → statement_view (made.ConstAssert a) ≡ assert_view a
-view_asserted a = search (rules, the_lemmas)
-
-pub view_declared : (d : Declaration) → statement_view (made.Declaration d) ≡ declaration_view d
-view_declared d = search (rules, the_lemmas)

@@ -17,6 +17,7 @@ pub record Numbered (I : Type 0) : Type 0 where
   pub number : ℕ
 
 module _ {I : Type 0} where
+  -- a label with the number n, if it is an identifier; any other as it is
   abbrev pub relabel : ℕ → LabelOf I → LabelOf (Numbered I)
   relabel n (kind k) = kind k
   relabel n (at k s e) = at k s e

@@ -10,6 +10,7 @@ use Rattle.wesl_cond_chains.specs.Picked.{Choice, picked_chain}
 use Rattle.wesl_tree_syntax.specs.Tree.{ForestOf}
 
 module _ {I : Type 0} where
+  -- whether a list of faults is empty
   abbrev pub is_faultless : List (Fault I) → Bool
   is_faultless [] = true
   is_faultless (f ∷ fs) = false
@@ -19,6 +20,7 @@ module _ {I N : Type 0} (J : Judged I N) (as_element : N → Element I) (choice 
   abbrev pub kept_chain : List N → List N
   kept_chain c = if is_faultless (list_faults (λ flag. Keep) false (map as_element c)) then picked_chain J choice c else c
 
+  -- what a choice keeps of a list, chain by chain; voids go
   abbrev pub kept_list : List N → List N
   kept_list ns = flat_map kept_chain (chains J (filter (is_node J) ns))
 
@@ -31,6 +33,7 @@ module _ {I : Type 0} where
   abbrev pub numbered_element : Judged I (Element I × ℕ)
   numbered_element = record { is_void = λ x. element.is_void x.0; condition_of = λ x. element.condition_of x.0; in_role = λ known role x. x }
 
+  -- the nodes of a list with their numbers, from n on
   abbrev pub numbered_from : ℕ → List (Element I) → List (Element I × ℕ)
   numbered_from n [] = []
   numbered_from n (x ∷ xs) = (x, n) ∷ numbered_from (suc n) xs

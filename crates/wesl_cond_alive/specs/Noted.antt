@@ -22,10 +22,11 @@ pub record WalksAs (ahead : Ahead) (here : Here) (old new : Walk) (t : Tree) : T
   pub noted : IfKept new (old.is_refused ≡ false)
   pub found : IfKept new (state_of new ≡ walk (record { here = here; ahead = ahead }) (state_of old) (before t end))
 
--- where judged lists may lie, and where none may
+-- the steps over one tree below which judged lists may lie
 abbrev pub Walks : Here → Walk → Walk → Tree → Type 0
 Walks here old new t = WalksAs (listed []) here old new t
 
+-- the steps over one tree below which no judged list may lie
 abbrev pub Leaves : Here → Walk → Walk → Tree → Type 0
 Leaves here old new t = WalksAs leaf here old new t
 
@@ -48,5 +49,6 @@ pub record Judges (holder : ℕ) (old new : Walk) (xs : List (Outline ℕ)) (pla
 abbrev pub below : code.Here → Ahead → Node
 below h ahead = record { here = spot_view h; ahead = ahead }
 
+-- the nodes of a judged list there, which stand in these places in turn
 abbrev pub standing_by : code.Here → List code.Here → Node
 standing_by h places = below h (listed (map here_view places))

@@ -11,6 +11,7 @@ use Rattle.wesl_tree_syntax.specs.Unit.{UnitOf, forest_of_unit}
 use Rattle.wesl_cond_alive.specs.Choices.{flags, choice_of, all_choices}
 use Rattle.wesl_cond_alive.specs.Kept.{kept_indexes}
 
+-- whether a number is one of these
 abbrev pub has : List ℕ → ℕ → Bool
 has xs i = list_any (nat_eq i) xs
 
@@ -22,6 +23,7 @@ module _ {I : Type 0} where
   is_plain (kind compound_statement) = true
   is_plain _ = false
 
+  -- how many trees stand side by side
   abbrev pub size : ForestOf I → ℕ
   size end = 0
   size (tree l children others) = suc (size others)
@@ -47,7 +49,8 @@ module _ {I : Type 0} where
 
   module _ (choice : Choice I) where
     -- Whether a choice keeps the node at a position: that of the tree with a number, and from there on. `held` has the
-    -- statements that are kept of a body that is judged with what closes it.
+    -- statements that are kept of a body that is judged with what closes it. A tree that is not there is not kept; below one in
+    -- which no judged list may lie the position is not looked at further.
     abbrev pub kept_at : Option (List ℕ) → ℕ → List ℕ → ForestOf I → Bool
     kept_at held n position end = false
     kept_at held (suc n) position (tree l children others) = kept_at held n position others
@@ -57,6 +60,8 @@ module _ {I : Type 0} where
         (cond (is_plain l) (kept_at None zero (i ∷ position) children)
         (keeps_child choice held l children i && kept_at (handed l (kept_indexes choice (closed_list children)) held i) i position children))
 
+  -- Whether a choice keeps the node at a position of a unit: 0 leads to its imports, 1 to its directives, 2 to its
+  -- declarations, any other first number nowhere, which is not kept. The unit itself, at the empty position, always is.
   abbrev pub kept_in : Choice I → List ℕ → UnitOf I → Bool
   kept_in choice [] u = true
   kept_in choice (n ∷ position) u = kept_at choice None n position (forest_of_unit u)

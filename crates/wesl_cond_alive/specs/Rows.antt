@@ -8,6 +8,7 @@ use Rattle.wesl_cond_alive.specs.Choices.{flags}
 use Rattle.wesl_cond_alive.specs.Alive.{alive_of, are_together}
 use Rattle.wesl_cond_alive.specs.Positions.{are_alive_together}
 
+-- what the rows are made of: the flags X and Y, the name `a`, a flag as a formula, and conditional attributes
 abbrev pub X : Text
 X = 88 ∷ []
 
@@ -36,6 +37,7 @@ on_else = attribute (tree (kind else_attribute) end end) end
 abbrev pub constant : ForestOf Text → ForestOf Text → ForestOf Text
 constant own others = tree (at declaration_node 0 0) (tree (kind declaration_kind) (tree (kind attributes) own (tree (ident binder a) end end)) end) others
 
+-- a unit that has these declarations alone
 abbrev pub unit : ForestOf Text → UnitOf Text
 unit ds = record { imports = branch imports []; directives = branch directive_list []; declarations = record { label = kind declarations; children = ds } }
 
@@ -47,6 +49,7 @@ two = unit (constant (on_flag X) (constant on_else end))
 abbrev pub broken : UnitOf Text
 broken = unit (constant (on_flag X) (constant on_else (constant on_else end)))
 
+-- the flags and the places of these units, and which places some choice keeps together
 pub record PlaceRows : Type 0 where
   pub one_flag : flags two ≡ X ∷ []
   pub alive : alive_of two ≡ (Declaration 1 ∷ Name 2 ∷ []) ∷ (Declaration 0 ∷ Name 1 ∷ []) ∷ []
@@ -78,6 +81,7 @@ looping =
 abbrev pub looped : UnitOf Text
 looped = unit (constant (on_flag X) (constant on_else looping))
 
+-- which nodes of the last unit some choice keeps together
 pub record PositionRows : Type 0 where
   pub two_flags : length (flags looped) ≡ 2
   pub apart : are_alive_together looped (2 ∷ 0 ∷ []) (2 ∷ 1 ∷ []) ≡ false

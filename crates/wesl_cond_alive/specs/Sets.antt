@@ -50,9 +50,10 @@ pub record AreSetsOf (flags : ℕ) (choice : ℕ → Choice ℕ) (sets : List ch
 abbrev pub before_declarations : {I : Type 0} → State I → UnitOf I → State I
 before_declarations s u = walk (plain (in_set all_choices)) s (before u.imports (before u.directives end))
 
--- where the imports of a unit stand, and where its declarations do
+-- where the imports of a unit stand, after what has been found before it
 abbrev pub import_places : State ℕ → UnitOf ℕ → List Here
 import_places s u = places_in all_choices (map outline_of (elements false u.imports.children)) s
 
+-- where the global declarations of a unit stand, after that and what is found in its imports and directives
 abbrev pub declaration_places : State ℕ → UnitOf ℕ → List Here
 declaration_places s u = places_in all_choices (map outline_of (elements false u.declarations.children)) (before_declarations s u)

@@ -1,4 +1,4 @@
--- Nodes of a judged list as what their conditions say, and chains in which no fault stands, whatever the flags.
+-- Nodes of a judged list as what their conditions say, and chains in which no fault stands where all flags are kept.
 use Rattle.std.specs.Prelude.{Bool, true, false, not, ◌&&◌, cond, List, [], ◌∷◌}
 use Rattle.wesl_cond_features.specs.declared.features.Feature.TheVariants.{Keep}
 use Rattle.wesl_cond_chains.specs.Chains.{Condition, none, on, else_on, otherwise, follows_on}
@@ -22,9 +22,11 @@ module _ {I : Type 0} where
   are_clean_after seen [] = true
   are_clean_after seen (c ∷ cs) = not seen && (is_faultless (condition_faults (λ flag. Keep) c) && are_clean_after true cs)
 
+  -- whether a node with these conditions has one at most, in whose formula no fault stands where all flags are kept
   abbrev pub are_clean : List (Condition I) → Bool
   are_clean cs = are_clean_after false cs
 
+  -- what matters of a node of a judged list, or of what closes one
   abbrev pub outline_of : Element I → Outline I
   outline_of x = record {
     is_void = is_void x.label x.children;
@@ -32,6 +34,7 @@ module _ {I : Type 0} where
     is_clean = are_clean (conditions (attributes_in (tree x.label x.children end)));
   }
 
+  -- whether there is a condition: an @if, an @elif or an @else
   abbrev pub is_conditional : Condition I → Bool
   is_conditional none = false
   is_conditional (on x) = true

@@ -33,24 +33,30 @@ pub record Mark (I : Type 0) : Type 0 where
   pub name : I
   pub set : ℕ
 
+-- what a walk has found so far; the first branch has set number 2, each further one the next
 pub record State (I : Type 0) : Type 0 where
   pub branches : List (Branch I)
   pub marks : List (Mark I)
   -- the identifiers that are part of formulas
   pub flags : List I
 
+-- the number of the set of all choices
 abbrev pub all_choices : ℕ
 all_choices = 0
 
+-- the number of the empty set, in which voids stand, and conditions that are gone
 abbrev pub no_choices : ℕ
 no_choices = 1
 
+-- in a set, outside of formulas, where no conditions of attributes are gone
 abbrev pub in_set : ℕ → Here
 in_set n = record { set = n; is_bare = false; is_formula = false }
 
+-- in the set of a branch of a chain without fault, so that the conditions of its attributes are gone
 abbrev pub bare_in : ℕ → Here
 bare_in n = record { set = n; is_bare = true; is_formula = false }
 
+-- here, but where no conditions of attributes are gone
 abbrev pub whole_here : Here → Here
 whole_here here = record here { is_bare = false }
 
@@ -84,20 +90,25 @@ pub record Node : Type 0 where
   pub here : Here
   pub ahead : Ahead
 
+-- what is known of the statements of a body: the places of their own list, or those that the body was given where its list
+-- is judged with what closes it
 abbrev pub statements_ahead : Ahead → List Here → Ahead
 statements_ahead (listed hs) places = listed places
 statements_ahead (inside hs) places = listed hs
 statements_ahead _ places = listed []
 
+-- what is known of the children of a body: as that of a loop or a continuing block it hands on the places of its list
 abbrev pub body_ahead : Ahead → Ahead
 body_ahead (listed hs) = listed []
 body_ahead (body hs) = inner hs
 body_ahead _ = inner []
 
+-- what is known of the children of a node with no list: of the child that closes a list the places left for it, else none
 abbrev pub last_ahead : Ahead → Ahead
 last_ahead (last hs) = listed hs
 last_ahead _ = listed []
 
+-- a node that stands here, and whose children stand where it does
 abbrev pub plain : Here → Node
 plain here = record { here = here; ahead = listed [] }
 
@@ -106,6 +117,7 @@ module _ {I : Type 0} where
   abbrev pub set_count : State I → ℕ
   set_count s = 2 + length s.branches
 
+  -- the formula of an @if or an @elif, else none
   abbrev pub formula_of : Condition I → Option (Form I)
   formula_of none = None
   formula_of (on x) = Some x.form
@@ -128,12 +140,13 @@ module _ {I : Type 0} where
         cond x.is_void (in_set no_choices ∷ places_of next whole xs)
         (cond (is_whole whole x xs) (in_set holder ∷ places_of next true xs) (bare_in next ∷ places_of (suc next) false xs))
 
-    -- a node is judged: its branch is added, if it has one, and where it stands
+    -- a node is judged, `whole` where it stays whole: its branch is added, if it has one
     abbrev pub branched : Bool → Outline I → State I → State I
     branched whole x s =
         cond x.is_void s
         (cond whole s (record s { branches = s.branches ++ record { holder = holder; begins = not (follows_on x.condition); formula = formula_of x.condition } ∷ [] }))
 
+    -- where such a node stands: a void in the empty set, one that stays whole in the holder's, a branch in set `next`
     abbrev pub place_of : ℕ → Bool → Outline I → Here
     place_of next whole x = cond x.is_void (in_set no_choices) (cond whole (in_set holder) (bare_in next))
 
@@ -142,6 +155,7 @@ module _ {I : Type 0} where
   judged holder [] s = s
   judged holder (x ∷ xs) s = record s { branches = s.branches ++ branches_of holder true (x ∷ xs) }
 
+  -- where the nodes of a list stand, whose branches are numbered after those found so far
   abbrev pub places_in : ℕ → List (Outline I) → State I → List Here
   places_in holder xs s = places_of holder (set_count s) true xs
 
@@ -150,6 +164,7 @@ module _ {I : Type 0} where
   statement_count (tree a own (tree s items rest)) = size items
   statement_count _ = 0
 
+  -- what is known of the trees after the next one
   abbrev pub next : Ahead → ForestOf I → Ahead
   next (listed []) children = listed []
   next (listed (h ∷ hs)) children = listed hs
@@ -178,6 +193,8 @@ module _ {I : Type 0} where
       (cond (is_list l) (listed places)
       (cond (is_compound l) (body_ahead ahead) (last_ahead ahead))))
 
+  -- what is known of the children of a node in which no judged list may lie: where it is the attributes list of a branch, that
+  -- the conditions among them are gone, else nothing
   abbrev pub attributes_in_turn : Here → LabelOf I → Ahead
   attributes_in_turn here l = cond (is_attributes l && here.is_bare) bare leaf
 
@@ -196,6 +213,7 @@ module _ {I : Type 0} where
         ahead = ahead_in node.ahead here l places;
       }
 
+  -- the node as the trees after the next one see it: attributes stand first, so that behind them no conditions are gone
   abbrev pub after : Node → ForestOf I → Node
   after node children = record { here = whole_here node.here; ahead = next node.ahead children }
 
@@ -205,6 +223,7 @@ module _ {I : Type 0} where
   list_in bare l children = []
   list_in ahead l children = list_at (is_held ahead) l children
 
+  -- what matters of the nodes of that list
   abbrev pub outlines_at : Node → LabelOf I → ForestOf I → List (Outline I)
   outlines_at node l children = map outline_of (list_in node.ahead l children)
 
@@ -218,6 +237,8 @@ module _ {I : Type 0} where
   or_marked (ident r x) here s found = record found { marks = s.marks ++ record { name = x; set = here.set } ∷ [] }
   or_marked _ here s found = found
 
+  -- What has been found after some trees, in document order: the branches of the list that is judged at a tree come before
+  -- those of the lists in it, and each identifier is marked with the set in which it stands.
   abbrev pub walk : Node → State I → ForestOf I → State I
   walk node s end = s
   walk node s (tree l children others) =

@@ -19,9 +19,6 @@ use Rattle.wesl_tree_syntax.specs.Tree.{Label, Forest, Tree, end, tree, before, 
 abbrev open_one : Label → Forest → Element ℕ
 open_one l c = record { closes = false; label = l; children = c }
 
-abbrev closing_one : Label → Forest → Element ℕ
-closing_one l c = record { closes = true; label = l; children = c }
-
 abbrev fate_of : Answers ℕ → Bool → Bool → Element ℕ → Option Role
 fate_of answers k d x = fate (is_branch still x && k) (is_branch still x && d) (branch still answers x)
 

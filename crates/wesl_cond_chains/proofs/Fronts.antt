@@ -1,8 +1,5 @@
 -- Lists of which a beginning was gone through.
-use Rattle.std.proofs.Common.{◌≡◌, ℕ, zero, suc, ◌+◌, ◌<◌, ◌≤◌, get_or, append_assoc, List, [], ◌∷◌, ◌++◌, length, map, take, drop, refl, sym, ap, ◌∙◌, arith}
-use Rattle.std.proofs.Math.ListN.{set}
-use Rattle.std.proofs.lemmas.List.{drop-set-lt, map-append, drop_more}
-use Rattle.std.proofs.lemmas.Grind.{take-set_at}
+use Rattle.std.proofs.Common.{◌≡◌, ℕ, zero, suc, ◌≤◌, List, [], ◌∷◌, ◌++◌, length, map, take, drop, refl, sym, ap, ◌∙◌, arith}
 
 pub front_is_all : {A B : Type 0} (f g : A → B) (xs : List A) (n : ℕ) → length xs ≤ n → map f (take n xs) ++ map g (drop n xs) ≡ map f xs
 front_is_all f g [] zero h = refl
@@ -21,15 +18,3 @@ lent_back n xs ys e = ap (λ m. take m (xs ++ drop (length xs) ys)) (sym e) ∙ 
 pub map_in_turn : {A B C : Type 0} (f : A → B) (g : B → C) (xs : List A) → map (λ x. g (f x)) xs ≡ map g (map f xs)
 map_in_turn f g [] = refl
 map_in_turn f g (x ∷ xs) = ap (λ r. g (f x) ∷ r) (map_in_turn f g xs)
-
--- one more of a list changed in its place
-pub changed : {A B : Type 0} (f g : A → B) (xs : List A) (i : ℕ) (d y : A) (total : List B) → i < length xs → f y ≡ g (get_or xs i d) → map f (take i xs) ++ map g (drop i xs) ≡ total
-    → map f (take (i + 1) (set xs i y)) ++ map g (drop (i + 1) (set xs i y)) ≡ total
-changed f g xs i d y total h e before =
-    ap (λ ys. map f ys ++ map g (drop (i + 1) (set xs i y))) (take-set_at xs i (i + 1) y refl h)
-    ∙ ap (λ ys. map f (take i xs ++ y ∷ []) ++ map g ys) (drop-set-lt (i + 1) xs i y (omega arith))
-    ∙ ap (λ ys. ys ++ map g (drop (i + 1) xs)) (map-append f (take i xs) (y ∷ []))
-    ∙ append_assoc (map f (take i xs)) (f y ∷ []) (map g (drop (i + 1) xs))
-    ∙ ap (λ z. map f (take i xs) ++ (z ∷ map g (drop (i + 1) xs))) e
-    ∙ ap (λ ys. map f (take i xs) ++ map g ys) (sym (drop_more xs i d h))
-    ∙ before

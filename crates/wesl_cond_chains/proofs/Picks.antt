@@ -148,10 +148,6 @@ module _ {I N : Type 0} (J : Judged I N) (choice : Choice I) where
   continued picked ([] ∷ cs) = flat_map (picked_chain J choice) cs
   continued picked ((n ∷ c) ∷ cs) = rest_of (is_branch J n && picked) (n ∷ c) ++ flat_map (picked_chain J choice) cs
 
-  rest_of-nil : (picked : Bool) → rest_of picked [] ≡ []
-  rest_of-nil true = refl
-  rest_of-nil false = refl
-
   one_more_at : (b : Bool) (n : N) (c more : List N) → cond b (plain n ∷ more) (picked_chain J choice c ++ more) ≡ cond b (plain n ∷ []) (picked_chain J choice c) ++ more
   one_more_at true n c more = refl
   one_more_at false n c more = refl

@@ -114,9 +114,6 @@ module _ (names : List Text) (reply : Replies ℕ) (opened closes : Bool) (t : T
   abbrev formulas : List (Fault ℕ)
   formulas = flat_map (condition_faults reply) of_node
 
-  pub void_begins : is_void t.label t.children ≡ true → (rest : List (Element ℕ)) → list_faults reply opened ((as_element closes t ∷ []) ++ rest) ≡ list_faults reply opened rest
-  void_begins e rest = rw e refl
-
   whole : is_void t.label t.children ≡ false → (rest : List (Element ℕ)) → list_faults reply opened ((as_element closes t ∷ []) ++ rest) ≡ places ++ (formulas ++ list_faults reply (opens of_node) rest)
   whole e rest = rw e (append_assoc places formulas (list_faults reply (opens of_node) rest))
 

@@ -103,29 +103,14 @@ among_before f [] ys h = absurd h
 among_before f (x ∷ xs) ys (inl e) = inl e
 among_before f (x ∷ xs) ys (inr h) = inr (among_before f xs ys h)
 
-among_after : {I : Type 0} (f : Fault I) (xs ys : List (Fault I)) → IsAmong f ys → IsAmong f (xs ++ ys)
-among_after f [] ys h = h
-among_after f (x ∷ xs) ys h = inr (among_after f xs ys h)
-
 nothing_before : {I : Type 0} (xs ys : List (Fault I)) → xs ++ ys ≡ [] → xs ≡ []
 nothing_before [] ys e = refl
 nothing_before (x ∷ xs) ys e = cc
-
-nothing_after : {I : Type 0} (xs ys : List (Fault I)) → xs ++ ys ≡ [] → ys ≡ []
-nothing_after [] ys e = e
-nothing_after (x ∷ xs) ys e = cc
 
 -- what one part is refused for, the whole is
 pub refuses_before : (names : List Text) (e : error.Error) (xs ys : List (Fault ℕ)) → Refuses names xs e → Refuses names (xs ++ ys) e
 refuses_before names e xs ys (inl h) = inl (h.0, λ none. h.1 (nothing_before xs ys none))
 refuses_before names e xs ys (inr h) = inr (h.0, among_before h.0 xs ys h.1, h.2)
-
-pub refuses_after : (names : List Text) (e : error.Error) (xs ys : List (Fault ℕ)) → Refuses names ys e → Refuses names (xs ++ ys) e
-refuses_after names e xs ys (inl h) = inl (h.0, λ none. h.1 (nothing_after xs ys none))
-refuses_after names e xs ys (inr h) = inr (h.0, among_after h.0 xs ys h.1, h.2)
-
-pub none_in_both : {I : Type 0} (xs ys : List (Fault I)) → xs ≡ [] → ys ≡ [] → xs ++ ys ≡ []
-none_in_both xs ys e d = ap (λ zs. zs ++ ys) e ∙ d
 
 -- an expression that reads as this formula is what that is written as
 pub written_as : (e : Expression) (f : Form ℕ) → form (expression_view e) ≡ f → expression_view e ≡ written f

@@ -57,41 +57,50 @@ pub record Judged (I N : Type 0) : Type 0 where
   pub condition_of : N → Condition I
   pub in_role : Answers I → Role → N → N
 
+-- true or undecided
 abbrev pub is_not_false : Truth → Bool
 is_not_false Yes = true
 is_not_false No = false
 is_not_false Undecided = true
 
+-- the role of the first branch that stays: plain where it is true, @if where it is undecided; a false one never stays
 abbrev pub first_role : Truth → Role
 first_role Yes = Plain
 first_role No = Plain
 first_role Undecided = If
 
+-- the role of a branch that stays after it: @else where it is true, @elif where it is undecided; a false one never stays
 abbrev pub later_role : Truth → Role
 later_role Yes = Else
 later_role No = Else
 later_role Undecided = Elif
 
 module _ {I N : Type 0} (J : Judged I N) where
+  -- whether it is no void
   abbrev pub is_node : N → Bool
   is_node n = not (J.is_void n)
 
+  -- whether it goes on with a chain: its condition is an @elif or an @else
   abbrev pub is_branch : N → Bool
   is_branch n = follows_on (J.condition_of n)
 
-  -- The chains of a list: a node, and the @elif and @else nodes directly after it.
+  -- a node before chains: in the first of them where that begins with an @elif or an @else, else in a chain of its own
   abbrev pub attach : N → List (List N) → List (List N)
   attach n [] = (n ∷ []) ∷ []
   attach n ([] ∷ cs) = (n ∷ []) ∷ cs
   attach n ((m ∷ c) ∷ cs) = cond (is_branch m) ((n ∷ m ∷ c) ∷ cs) ((n ∷ []) ∷ (m ∷ c) ∷ cs)
 
+  -- The chains of a list: a node, and the @elif and @else nodes directly after it. A node without a condition begins one too,
+  -- and so does an @elif or an @else that stands first.
   abbrev pub chains : List N → List (List N)
   chains [] = []
   chains (n ∷ ns) = attach n (chains ns)
 
+  -- whether the condition of a node holds
   abbrev pub branch : Answers I → N → Truth
   branch known n = holds known (J.condition_of n)
 
+  -- a branch before later ones, none of which is left after a true one
   abbrev pub until : Truth → N → List N → List N
   until Yes n ns = n ∷ []
   until No n ns = n ∷ ns
@@ -106,6 +115,7 @@ module _ {I N : Type 0} (J : Judged I N) where
   abbrev pub live : Answers I → List N → List N
   live known c = filter (λ n. is_not_false (branch known n)) (up_to_true known c)
 
+  -- a later branch that stays, as an @else where it is true and else as an @elif
   abbrev pub later : Answers I → N → N
   later known n = J.in_role known (later_role (branch known n)) n
 
@@ -114,6 +124,7 @@ module _ {I N : Type 0} (J : Judged I N) where
   headed known [] = []
   headed known (n ∷ ns) = J.in_role known (first_role (branch known n)) n ∷ map (later known) ns
 
+  -- what is left of a chain: its branches that stay, each in its role
   abbrev pub residual_chain : Answers I → List N → List N
   residual_chain known c = headed known (live known c)
 

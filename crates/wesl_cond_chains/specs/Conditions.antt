@@ -9,11 +9,12 @@ use Rattle.wesl_tree_syntax.specs.Tree.{LabelOf, ForestOf, end, tree, kind, at, 
 use Rattle.wesl_tree_syntax.specs.Unit.{begins_void}
 
 module _ {I : Type 0} where
-  -- the first tree, as a formula in its place
+  -- the first of some formulas in their places; where there is none, something that is no formula
   abbrev pub first_of : List (Spot I) → Spot I
   first_of [] = record { span = nowhere; form = other (kind absent) end }
   first_of (x ∷ xs) = x
 
+  -- the first tree, as a formula in its place
   abbrev pub first_spot : ForestOf I → Spot I
   first_spot operand = first_of (spots operand)
 
@@ -24,6 +25,7 @@ module _ {I : Type 0} where
   condition_at (tree (kind else_attribute) operand others) = otherwise
   condition_at _ = none
 
+  -- the first of two conditions, or the second where the first is none
   abbrev pub or_next : Condition I → Condition I → Condition I
   or_next none next = next
   or_next (on x) next = on x
@@ -63,11 +65,12 @@ module _ {I : Type 0} where
   recast known role end = end
   recast known role (tree l attribute others) = replaced l attribute (condition_at attribute) (recast_condition known role (condition_at attribute)) (recast known role others)
 
-  -- the lists that are judged
+  -- a list of statements
   abbrev pub is_statements : LabelOf I → Bool
   is_statements (kind statements) = true
   is_statements _ = false
 
+  -- the lists that are judged: imports, directives, global declarations, struct members, parameters, statements and clauses
   abbrev pub is_list : LabelOf I → Bool
   is_list (kind imports) = true
   is_list (kind directive_list) = true
@@ -83,6 +86,7 @@ module _ {I : Type 0} where
   attributes_in end = end
   attributes_in (tree l children others) = cond (is_attributes l) children (cond (is_list l) end (attributes_in children))
 
+  -- the trees with those attributes changed; where the first has none, as they are
   abbrev pub with_attributes : (ForestOf I → ForestOf I) → ForestOf I → ForestOf I
   with_attributes change end = end
   with_attributes change (tree l children others) = tree l (cond (is_attributes l) (change children) (cond (is_list l) children (with_attributes change children))) others

@@ -9,12 +9,14 @@ use Rattle.wesl_cond_features.specs.Features.{Replies, known}
 use Rattle.wesl_tree_syntax.specs.Tree.{LabelOf, ForestOf, end, tree}
 
 module _ {I : Type 0} where
+  -- the faults in the formula of a condition; an @else has none
   abbrev pub condition_faults : Replies I → Condition I → List (Fault I)
   condition_faults reply none = []
   condition_faults reply (on x) = formula_faults reply x.form
   condition_faults reply (else_on x) = formula_faults reply x.form
   condition_faults reply otherwise = []
 
+  -- a condition before others, unless it is none
   abbrev pub and_rest : Condition I → List (Condition I) → List (Condition I)
   and_rest none cs = cs
   and_rest (on x) cs = on x ∷ cs
@@ -30,6 +32,7 @@ module _ {I : Type 0} where
   abbrev pub all_condition_faults : Replies I → ForestOf I → List (Fault I)
   all_condition_faults reply attributes = flat_map (condition_faults reply) (conditions attributes)
 
+  -- all conditions of a node
   abbrev pub conditions_of : Element I → List (Condition I)
   conditions_of x = conditions (attributes_in (tree x.label x.children end))
 
@@ -58,10 +61,13 @@ module _ {I : Type 0} where
       (list_faults reply opened xs)
       (place_faults opened (conditions_of x) ++ flat_map (condition_faults reply) (conditions_of x) ++ list_faults reply (opens (conditions_of x)) xs)
 
+  -- the statements of a body and then what closes them, as one list; what is no body has the empty list
   abbrev pub body_list : ForestOf I → ForestOf I → List (Element I)
   body_list (tree a attributes (tree s list rest)) last = cond (is_statements s) (elements false list ++ elements true last) []
   body_list body last = []
 
+  -- the list of a loop or of a continuing block, by its children: the statements of its body, then the continuing block or
+  -- the `break if`; children of any other form have the empty list
   abbrev pub closed_list : ForestOf I → List (Element I)
   closed_list (tree a attributes (tree b body (tree o last others))) = cond (is_compound b && is_option o) (body_list body last) []
   closed_list children = []

@@ -7,6 +7,7 @@ use Rattle.wesl_tree_syntax.specs.Tree.{LabelOf, ForestOf, end, tree, ident}
 use Rattle.wesl_tree_syntax.specs.Unit.{UnitOf}
 
 module _ {I : Type 0} where
+  -- the identifier that a label is, inside a formula; outside of formulas, and of any other label, none
   abbrev pub identifier : Bool → LabelOf I → List I
   identifier true (ident r name) = name ∷ []
   identifier _ _ = []
@@ -16,6 +17,7 @@ module _ {I : Type 0} where
   flags_in inside end = []
   flags_in inside (tree l children others) = identifier inside l ++ flags_in (inside || is_formula l) children ++ flags_in inside others
 
+  -- all flags of a module, in document order, with repeats
   abbrev pub flags_of : UnitOf I → List I
   flags_of u = flags_in false u.imports.children ++ flags_in false u.directives.children ++ flags_in false u.declarations.children
 

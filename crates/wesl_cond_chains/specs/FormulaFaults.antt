@@ -24,6 +24,7 @@ module _ {I : Type 0} where
   IsAmong f [] = ⊥
   IsAmong f (g ∷ gs) = (f ≡ g) ⊎ IsAmong f gs
 
+  -- the fault of a flag, by its answer: it is unexpected where that is error, else there is none
   abbrev pub faults_if_refused : Feature → I → List (Fault I)
   faults_if_refused Enable name = []
   faults_if_refused Disable name = []
@@ -51,6 +52,7 @@ TellsCondition names NoPrecedingIf no_preceding_if = Unit {0}
 TellsCondition names DuplicateIf duplicate_if = Unit {0}
 TellsCondition names e f = ⊥
 
+-- the same of an error of any kind; one that is not of conditions tells no fault
 abbrev pub Tells : List Text → error.Error → Fault ℕ → Type 0
 Tells names (error.CondComp e) f = TellsCondition names e f
 Tells names e f = ⊥

@@ -44,6 +44,7 @@ module _ {I : Type 0} where
   parenthesized p (disjunction q f r g) = within p (disjunction q f r g)
   parenthesized p (other l c) = other l c
 
+  -- the negation of f, by whether f is a literal, and which one
   abbrev pub negated_as : Truth → Span → Form I → Form I
   negated_as Yes p f = never
   negated_as No p f = always
@@ -53,6 +54,7 @@ module _ {I : Type 0} where
   abbrev pub negated : Span → Form I → Form I
   negated p f = negated_as (literal f) p f
 
+  -- the conjunction of f and g, by whether each is a literal, and which one
   abbrev pub both_as : Truth → Truth → Span → Form I → Span → Form I → Form I
   both_as No u p f q g = never
   both_as Yes Yes p f q g = always
@@ -66,6 +68,7 @@ module _ {I : Type 0} where
   abbrev pub both_of : Span → Form I → Span → Form I → Form I
   both_of p f q g = both_as (literal f) (literal g) p f q g
 
+  -- the disjunction of f and g, by whether each is a literal, and which one
   abbrev pub either_as : Truth → Truth → Span → Form I → Span → Form I → Form I
   either_as Yes u p f q g = always
   either_as No Yes p f q g = always

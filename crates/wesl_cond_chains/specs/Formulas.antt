@@ -25,6 +25,7 @@ pub record Spot (I : Type 0) : Type 0 where
   pub span : Span
   pub form : Form I
 
+-- the span `0..0`, of what has no place
 abbrev pub nowhere : Span
 nowhere = record { start = 0; end = 0 }
 
@@ -34,10 +35,12 @@ module _ {I : Type 0} where
   type_name (tree t (tree p path (tree (ident r name) below arguments)) others) = Some name
   type_name _ = None
 
+  -- whether a type expression has template arguments; an empty list of them counts too
   abbrev pub has_arguments : ForestOf I → Bool
   has_arguments (tree t (tree p path (tree i below (tree (kind present) list rest))) others) = true
   has_arguments _ = false
 
+  -- what a name reads as: a flag, or one with template arguments; where there is no name, no formula
   abbrev pub named_as : Option I → Bool → ForestOf I → Form I
   named_as None arguments c = other (kind type_or_identifier) c
   named_as (Some name) true c = templated name c

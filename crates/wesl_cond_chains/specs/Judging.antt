@@ -39,9 +39,10 @@ closing answers items last = back true (staying element answers (elements false 
 abbrev pub Closes : Answers ℕ → Forest → Forest → Bool → Type 0
 Closes answers items last stays = closing answers items last ≡ cond stays last end
 
--- the next node of the code judged, and the nodes at the beginning of a list, whether or not they close it
+-- the next node of the code judged, whether or not it closes the list
 abbrev pub NodeBegins : List Text → Replies ℕ → Bool → Tree → Result Bool Diagnostic → Type 0
 NodeBegins names reply opened t result = (closes : Bool) → ListBegins names reply opened (as_element closes t ∷ []) result
 
+-- the nodes of the code at the beginning of a list judged, whether or not they close it
 abbrev pub NodesBegin : {A : Type 0} → List Text → Replies ℕ → (A → Tree) → List A → Result Bool Diagnostic → Type 0
 NodesBegin names reply view xs result = (closes : Bool) → ListBegins names reply false (as_elements closes view xs) result

@@ -32,6 +32,7 @@ module _ {I : Type 0} where
   abbrev pub StandsIn : Replies I → UnitOf I → Fault I → Type 0
   StandsIn reply u f = Stands reply false (forest_of_unit u) f
 
+  -- no fault stands in a module
   abbrev pub IsFaultless : Replies I → UnitOf I → Type 0
   IsFaultless reply u = (f : Fault I) → StandsIn reply u f → ⊥
 

@@ -11,11 +11,14 @@ pub record Element (I : Type 0) : Type 0 where
   pub label : LabelOf I
   pub children : ForestOf I
 
+-- whether a node goes back to a place: one that closes a list to that of what closes it, any other into the list
 abbrev pub goes_back : Bool → Bool → Bool
 goes_back true closes = closes
 goes_back false closes = not closes
 
 module _ {I : Type 0} where
+  -- How an element is judged: by its first condition. In a role each condition among its attributes is made anew or taken
+  -- away, and all else stays.
   abbrev pub element : Judged I (Element I)
   element = record {
     is_void = λ x. is_void x.label x.children;
@@ -35,6 +38,7 @@ module _ {I : Type 0} where
     in_role = λ known role x. x;
   }
 
+  -- each of some trees as such a node, where all of them close a list or none does
   abbrev pub elements : Bool → ForestOf I → List (Element I)
   elements closes end = []
   elements closes (tree l children others) = record { closes = closes; label = l; children = children } ∷ elements closes others
@@ -50,10 +54,12 @@ module _ {I : Type 0} where
   is_closed (kind continuing) = true
   is_closed _ = false
 
+  -- a body: attributes, and statements in braces
   abbrev pub is_compound : LabelOf I → Bool
   is_compound (kind compound) = true
   is_compound _ = false
 
+  -- an optional child, there or not
   abbrev pub is_option : LabelOf I → Bool
   is_option (kind present) = true
   is_option (kind absent) = true

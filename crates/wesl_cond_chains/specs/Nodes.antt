@@ -15,16 +15,19 @@ use Rattle.wesl_tree_syntax.specs.View.{attribute_view, expression_tree, placed}
 use Rattle.wesl_tree_syntax.specs.declared.attribute.Attribute.{Attribute}
 use Rattle.wesl_tree_syntax.specs.declared.span.Spanned.{Spanned}
 
--- what a set of features answers for the flags of a table, and what that says of them
+-- what a set of features answers for the flags of a table
 abbrev pub replies : List Text → Features → Replies ℕ
 replies names features = by_number names (answer_to features)
 
+-- what these answers say of the flags: true, false or undecided
 abbrev pub answers : List Text → Features → Answers ℕ
 answers names features = known (replies names features)
 
+-- an attribute of the code as a tree, with its span
 abbrev pub attribute_tree : Spanned Attribute → Tree
 attribute_tree = placed attribute_view attribute_node
 
+-- the attributes of the code as trees side by side
 abbrev pub attributes_forest : List (Spanned Attribute) → Forest
 attributes_forest xs = forest_of (map attribute_tree xs)
 
@@ -55,6 +58,7 @@ remade a otherwise (on y) = attribute_of (on y)
 remade a otherwise (else_on y) = attribute_of (else_on y)
 remade a otherwise otherwise = attribute_of otherwise
 
+-- an attribute in a role, with what is left of its formula; where the role leaves no condition, as it was
 abbrev pub marked : Answers ℕ → Role → Forest → Forest
 marked known role a = remade a (condition_at a) (recast_condition known role (condition_at a))
 
@@ -67,6 +71,7 @@ instead (Some b) a = before (attribute_view b) end
 abbrev pub marked_tree : Answers ℕ → Role → Tree → Tree
 marked_tree known role t = record { label = t.label; children = marked known role t.children }
 
+-- whether there is a condition
 abbrev pub is_any : Condition ℕ → Bool
 is_any none = false
 is_any (on x) = true
@@ -79,6 +84,7 @@ several_after seen [] = false
 several_after false (c ∷ cs) = several_after true cs
 several_after true (c ∷ cs) = true
 
+-- whether these are two conditions or more
 abbrev pub is_several : List (Condition ℕ) → Bool
 is_several cs = several_after false cs
 
@@ -90,6 +96,7 @@ as_element closes t = record { closes = closes; label = t.label; children = t.ch
 abbrev pub nodes_forest : {A : Type 0} → (A → Tree) → List A → Forest
 nodes_forest view xs = forest_of (map view xs)
 
+-- nodes of the code as nodes of a judged list, or as what closes one
 abbrev pub as_elements : {A : Type 0} → Bool → (A → Tree) → List A → List (Element ℕ)
 as_elements closes view xs = map (λ x. as_element closes (view x)) xs
 
@@ -98,13 +105,15 @@ abbrev pub optional_elements : {A : Type 0} → Bool → (A → Tree) → Option
 optional_elements closes view None = []
 optional_elements closes view (Some x) = as_element closes (view x) ∷ []
 
+-- a node of the code as a tree, if it is there
 abbrev pub optional_forest : {A : Type 0} → (A → Tree) → Option A → Forest
 optional_forest view None = end
 optional_forest view (Some x) = before (view x) end
 
--- a list of the code, and one with what closes it, if there is anything, as judged lists
+-- a list of the code as a judged list
 abbrev pub nodes_in : {A : Type 0} → (A → Tree) → List A → List (Element ℕ)
 nodes_in view xs = elements false (nodes_forest view xs)
 
+-- a list of the code, and then what closes it, if there is anything, as one judged list
 abbrev pub closed_nodes : {A B : Type 0} → (A → Tree) → List A → (B → Tree) → Option B → List (Element ℕ)
 closed_nodes view xs last_view last = nodes_in view xs ++ elements true (optional_forest last_view last)

@@ -28,19 +28,24 @@ module _ {I : Type 0} where
   is_true choice otherwise = true
 
 module _ {I N : Type 0} (J : Judged I N) (choice : Choice I) where
+  -- of a chain the first branch that is true, without its condition; nothing where none is true
   abbrev pub picked_chain : List N → List N
   picked_chain [] = []
   picked_chain (n ∷ c) = cond (is_true choice (J.condition_of n)) (J.in_role (chosen choice) Plain n ∷ []) (picked_chain c)
 
+  -- what is picked of each chain of a list; voids go
   abbrev pub picked_list : List N → List N
   picked_list ns = flat_map picked_chain (chains J (filter (is_node J) ns))
 
 module _ {I : Type 0} where
+  -- trees, with what is picked of each judged list in them
   abbrev pub picked_forest : Choice I → ForestOf I → ForestOf I
   picked_forest choice = through (picked_list element choice) false
 
+  -- a tree, with what is picked of each judged list in it
   abbrev pub picked_tree : Choice I → TreeOf I → TreeOf I
   picked_tree choice t = first_tree t (picked_forest choice (tree t.label t.children end))
 
+  -- a unit, with what is picked of each judged list in it
   abbrev pub picked_unit : Choice I → UnitOf I → UnitOf I
   picked_unit choice u = record { imports = picked_tree choice u.imports; directives = picked_tree choice u.directives; declarations = picked_tree choice u.declarations }

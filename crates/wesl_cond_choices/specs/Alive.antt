@@ -12,6 +12,7 @@ pub record PlaceSets : Type 0 where
   pub declarations : List ℕ
   pub names : List ℕ
 
+-- these sets and numbers, as one record
 abbrev pub place_sets : ℕ → List Choices → List ℕ → List ℕ → List ℕ → PlaceSets
 place_sets flags sets imports declarations names =
     record { flags = flags; sets = sets; imports = imports; declarations = declarations; names = names }

@@ -4,10 +4,12 @@ use Rattle.std.specs.List.{list_any}
 use Rattle.wesl_cond_choices.specs.declared.place.Place.{Place}
 use Rattle.wesl_cond_choices.specs.declared.place.Place.TheVariants.{Always, Import, Declaration, Name}
 
+-- whether it is the module itself, which every choice keeps
 abbrev pub is_always : Place → Bool
 is_always Always = true
 is_always _ = false
 
+-- whether both are one place: the module itself, or of one kind and with one number
 abbrev pub same_place : Place → Place → Bool
 same_place Always Always = true
 same_place (Import j) (Import k) = nat_eq j k

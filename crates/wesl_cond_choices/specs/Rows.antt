@@ -19,6 +19,7 @@ with_y_alone = record { flags = 2; words = 4 ∷ [] }
 abbrev pub places : PlaceSets
 places = record { flags = 2; sets = all ∷ with_x ∷ with_y_alone ∷ []; imports = 1 ∷ 2 ∷ []; declarations = 2 ∷ []; names = 0 ∷ 7 ∷ [] }
 
+-- which choices the sets have, what each choice keeps of these places, and which of them some choice keeps together
 pub record PlaceRows : Type 0 where
   pub x : has with_x 3 ≡ true
   pub not_x : has with_x 2 ≡ false

@@ -64,10 +64,6 @@ module _ (names : List Text) where
     pub adds_skip : (t : Tree) (o : Forest) (a b : Told) → is_entered t.label ≡ false → AddsAll names reply o a b → AddsAll names reply (before t o) a b
     adds_skip t o a b e h = adds_past t o a b (leaf_alone reply false t.label t.children e) h
 
-    -- a first tree, and one without a fault
-    pub adds_before : (t u : Tree) (a b : Told) → AddsAll names reply (before t end) a b → AreFaults reply false (before u end) [] → AddsAll names reply (before t (before u end)) a b
-    adds_before t u a b h clear = (h.0, subst (AreFaults reply false (before t (before u end))) (append-nil h.0) (joined reply false t.label t.children (before u end) h.0 [] h.1 clear), h.2)
-
     -- the list of a node has a fault
     pub adds_own : (l : Label) (c : Forest) (a b : Told) → is_entered l ≡ true → (list_faults reply false (list_at false l c) ≡ [] → ⊥) → Adds names (list_places reply false (list_at false l c)) a b → AddsAll names reply (tree l c end) a b
     adds_own l c a b en some h = (list_places reply false (list_at false l c), own_alone reply false l c en (some_place (list_at false l c) some), h)

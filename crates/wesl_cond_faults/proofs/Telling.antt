@@ -29,9 +29,6 @@ module _ (names : List Text) where
   placed_told : (e : error.Error) (span : Span) (f : Fault ℕ) (d : Diagnostic) → IsPlaced e span d → Tells names e f → TellsPlace names (found_at span f) d
   placed_told e span f d is h = subst (λ g. Tells names g f × IsPlaced g span d) (sym (ap (λ r. r.error) is)) (h, is)
 
-  pub nothing_told : (t : Told) → t.diagnostics.items ≡ [] → IsTold names [] t
-  nothing_told t e = λ kept. subst (TellEach names []) (sym e) tt
-
   pub adds_one : (e : error.Error) (span : Span) (f : Fault ℕ) (d : Diagnostic) (a b : Told) → (b.is_refused ≡ false → a.is_refused ≡ false) → (b.is_refused ≡ false → b.diagnostics.items ≡ a.diagnostics.items ++ d ∷ [])
       → IsPlaced e span d → Tells names e f → Adds names (found_at span f ∷ []) a b
   adds_one e span f d a b kept grown is h = λ first told k. subst (TellEach names (first ++ found_at span f ∷ [])) (sym (grown k)) (tell_more first a.diagnostics.items (found_at span f) d (told (kept k)) (placed_told e span f d is h))

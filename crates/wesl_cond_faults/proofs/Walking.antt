@@ -1,5 +1,5 @@
 -- What is told of a list, node by node.
-use Rattle.std.proofs.Common.{◌≡◌, ℕ, Bool, true, false, cond, ◌&&◌, List, [], ◌∷◌, ◌++◌, map, drop, length, ◌≤◌, ◌<◌, ◌+◌, get_or, Option, Some, None, refl, sym, ap, ◌∙◌, subst}
+use Rattle.std.proofs.Common.{◌≡◌, ℕ, Bool, true, false, cond, ◌&&◌, List, [], ◌∷◌, ◌++◌, map, drop, length, ◌≤◌, ◌<◌, ◌+◌, get_or, Option, Some, None, sym, ap, ◌∙◌, subst}
 use Rattle.std.proofs.lemmas.List.{drop_more}
 use Rattle.wesl_cond_features.specs.declared.chain.Role.{Role}
 use Rattle.wesl_cond_chains.proofs.Begun.{none_left}
@@ -68,9 +68,6 @@ module _ (names : List Text) (reply : Replies ℕ) where
     -- A list that is not judged.
     abbrev pub IsListed : ℕ → Told → Type 0
     IsListed i b = Owes names reply (forest_of (map view xs)) a b (forest_of (map view (drop i xs)))
-
-    pub listed_at_start : IsListed 0 a
-    listed_at_start = owes_all names reply (forest_of (map view xs)) (forest_of (map view xs)) a refl
 
     pub listed_next : (i : ℕ) (x : A) (b c : Told) → i < length xs → x ≡ get_or xs i x → AddsAll names reply (before (view x) end) b c → IsListed i b → IsListed (i + 1) c
     listed_next i x b c lt is told h =

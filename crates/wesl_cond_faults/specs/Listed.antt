@@ -8,7 +8,8 @@ use Rattle.wesl_cond_features.specs.Features.{Replies, known}
 use Rattle.wesl_cond_faults.specs.Places.{Place, list_places}
 use Rattle.wesl_tree_syntax.specs.Tree.{LabelOf, ForestOf, Forest, end, tree}
 
--- The faults in some trees, in document order: of a list that is judged its own, or, where it has none, those inside its nodes that stay.
+-- The faults in some trees, in document order: of a list that is judged its own, or, where it has none, those inside its nodes
+-- that stay.
 pub data AreFaults {I : Type 0} (reply : Replies I) : Bool → ForestOf I → List (Place I) → Type 0 where
   nothing : {held : Bool} → AreFaults reply held end []
   own : {held : Bool} {l : LabelOf I} {children others : ForestOf I} {rest : List (Place I)} → is_entered l ≡ true → (list_places reply false (list_at held l children) ≡ [] → ⊥)

@@ -17,6 +17,7 @@ pub record Place (I : Type 0) : Type 0 where
   pub fault : Fault I
 
 module _ {I : Type 0} where
+  -- a fault, with the span of what is at fault
   abbrev pub found_at : Span → Fault I → Place I
   found_at span fault = record { span = span; fault = fault }
 
@@ -32,12 +33,14 @@ module _ {I : Type 0} where
   formula_places reply span (disjunction p f q g) = formula_places reply p f ++ formula_places reply q g
   formula_places reply span (other l c) = found_at span invalid_expression ∷ []
 
+  -- the faults in the formula of a condition; an @else has none
   abbrev pub condition_places : Replies I → Condition I → List (Place I)
   condition_places reply none = []
   condition_places reply (on x) = formula_places reply x.span x.form
   condition_places reply (else_on x) = formula_places reply x.span x.form
   condition_places reply otherwise = []
 
+  -- the faults in the formulas of all conditions of an attributes list
   abbrev pub all_condition_places : Replies I → ForestOf I → List (Place I)
   all_condition_places reply attributes = flat_map (condition_places reply) (conditions attributes)
 
@@ -56,10 +59,12 @@ module _ {I : Type 0} where
   abbrev pub opened_after : Bool → Element I → Bool
   opened_after opened x = cond (is_void x.label x.children) opened (opens (conditions_of x))
 
+  -- the same after several nodes
   abbrev pub opened_through : Bool → List (Element I) → Bool
   opened_through opened [] = opened
   opened_through opened (x ∷ xs) = opened_through (opened_after opened x) xs
 
+  -- the faults of a list, node by node; `opened` where an @elif or an @else may stand first
   abbrev pub list_places : Replies I → Bool → List (Element I) → List (Place I)
   list_places reply opened [] = []
   list_places reply opened (x ∷ xs) = node_places reply opened x ++ list_places reply (opened_after opened x) xs

@@ -12,12 +12,13 @@ or_else Yes t = Yes
 or_else No t = No
 or_else Undecided t = t
 
--- the connectives on what is known
+-- the connectives on what is known: a negation, undecided where its operand is
 abbrev pub opposite : Truth → Truth
 opposite Yes = No
 opposite No = Yes
 opposite Undecided = Undecided
 
+-- a conjunction: false where one side is, true where both are, else undecided
 abbrev pub both_hold : Truth → Truth → Truth
 both_hold No u = No
 both_hold Yes u = u
@@ -25,6 +26,7 @@ both_hold Undecided Yes = Undecided
 both_hold Undecided No = No
 both_hold Undecided Undecided = Undecided
 
+-- a disjunction: true where one side is, false where both are, else undecided
 abbrev pub one_holds : Truth → Truth → Truth
 one_holds Yes u = Yes
 one_holds No u = u

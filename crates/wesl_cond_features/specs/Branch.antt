@@ -14,12 +14,14 @@ fate true false Yes = Some Else
 fate false false Undecided = Some If
 fate true false Undecided = Some Elif
 
+-- whether a branch of the chain is kept after the next one: one was before, or the next one stays
 abbrev pub kept_after : Bool → Bool → Truth → Bool
 kept_after kept true t = kept
 kept_after kept false No = kept
 kept_after kept false Yes = true
 kept_after kept false Undecided = true
 
+-- whether a branch of the chain was true after the next one: one was before, or the next one is
 abbrev pub decided_after : Bool → Truth → Bool
 decided_after true t = true
 decided_after false No = false

@@ -15,6 +15,7 @@ use Rattle.wesl_tree_syntax.specs.Unit.{name_in}
 abbrev pub answer_to : Features → Text → Feature
 answer_to features name = unwrap_or (get_by_text features.flags name) features.default
 
+-- what an answer says of its flag: enable that it is true, disable that it is false, keep and error leave it undecided
 abbrev pub says : Feature → Truth
 says Enable = Yes
 says Disable = No
@@ -37,6 +38,7 @@ module _ {I : Type 0} where
   abbrev pub known : Replies I → Answers I
   known reply = λ flag. says (reply flag)
 
+  -- no flag has the answer error
   abbrev pub HoldsNoError : Replies I → Type 0
   HoldsNoError reply = (flag : I) → reply flag ≡ Error → ⊥
 

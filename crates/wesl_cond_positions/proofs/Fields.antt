@@ -25,12 +25,6 @@ module _ (choice : Choice ℕ) where
   in_leaf held [] t others e = refl
   in_leaf held (i ∷ p) t others e = rw e refl
 
-  -- there is no such field
-  pub no_field : (held : Option (List ℕ)) (i : ℕ) (p : List ℕ) (ts : List Tree) → length ts ≤ i → kept_at choice held i p (forest_of ts) ≡ false
-  no_field held i p [] h = refl
-  no_field held zero p (t ∷ ts) h = absurd (omega arith)
-  no_field held (suc i) p (t ∷ ts) h = no_field held i p ts (omega arith)
-
   module _ {X : Type 0} (view : X → Tree) where
     -- an element of a list
     pub element_at : (i : ℕ) (p : List ℕ) (xs : List X) (d : X) → i < length xs → kept_at choice None i p (forest_of (map view xs)) ≡ from_tree p (view (get_or xs i d))

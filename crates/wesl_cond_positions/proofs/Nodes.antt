@@ -181,10 +181,6 @@ module _ {X : Type 0} (view : X → Tree) where
 -- ---- loops and continuing blocks
 
 module _ (look : Lookup) where
-  held_at : (choice : Choice ℕ) (ks : List ℕ) (b : Vec (Spanned Attribute)) (ts : List Tree) (i : ℕ) (q : List ℕ)
-      → kept_at choice (Some ks) 0 (1 ∷ i ∷ q) (before (body_tree b ts) end) ≡ (has ks i && kept_at choice None i q (forest_of ts))
-  held_at choice ks b ts i q = refl
-
   module _ (t : Tree) (b : Vec (Spanned Attribute)) (ss : List (Spanned Statement)) (is : t ≡ body_tree b (map statement_tree ss)) (xs : List (Element ℕ)) where
     abbrev in_held : Choice ℕ → List ℕ → Bool
     in_held choice p = kept_at choice (Some (kept_indexes choice xs)) 0 p (before t end)

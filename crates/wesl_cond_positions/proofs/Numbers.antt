@@ -1,11 +1,10 @@
 -- The numbers of the nodes of a judged list that a choice keeps.
 use Rattle.std.proofs.Common.{◌≡◌, ℕ, zero, suc, ◌+◌, ◌<◌, ◌≤◌, ◌^◌, nat_eq, ◌&&◌, ◌||◌, cond, Bool, true, false, List, [], ◌∷◌, map, drop, get_or, length, refl, sym, ap, ◌∙◌, arith}
-use Rattle.std.specs.Prelude.{None, Some, Result, Ok, Err, IfOk}
+use Rattle.std.specs.Prelude.{Result, Ok, Err, IfOk}
 use Rattle.std.specs.declared.alloc.AllocError.{AllocError}
 use Rattle.std.proofs.lemmas.Bool.{eq-eqb, ne_eqb}
 use Rattle.std.proofs.lemmas.List.{drop_more, length-map}
-use Rattle.wesl_cond_chains.specs.Chains.{Condition, none, on, else_on, otherwise, follows_on}
-use Rattle.wesl_cond_chains.specs.Formulas.{Form, value_under}
+use Rattle.wesl_cond_chains.specs.Chains.{follows_on}
 use Rattle.wesl_cond_chains.specs.Lists.{Element}
 use Rattle.wesl_cond_chains.specs.Picked.{Choice, is_true}
 use Rattle.wesl_cond_choices.specs.Choices.{Choices}
@@ -14,7 +13,6 @@ use Rattle.wesl_cond_alive.specs.Kept.{kept_indexes, numbered_element, numbered_
 use Rattle.wesl_cond_alive.specs.Positions.{has}
 use Rattle.wesl_cond_alive.specs.Sound.{Outline, is_whole, outline_of, whole_after}
 use Rattle.wesl_cond_alive.specs.Views.{outline_view}
-use Rattle.wesl_cond_alive.specs.Walk.{formula_of}
 use Rattle.wesl_cond_alive.specs.declared.outline.Outline as code
 use Rattle.wesl_cond_alive.proofs.Turns.{IsTold, Verdict, goes, stays, picked, verdict, verdicts, all_become, kept_is}
 use Rattle.wesl_cond_positions.specs.Found.{IsFound, choice_in, free_after, keeps_node}
@@ -111,9 +109,6 @@ module _ {I : Type 0} (choice : Choice I) where
 pub none_past : (choice : Choice ℕ) (xs : List (Outline ℕ)) (i : ℕ) → length xs ≤ i → stays_at (verdicts choice true true xs) i ≡ false
 none_past choice xs i h = stays_past (verdicts choice true true xs) i (omega (arith, length_verdicts choice true true xs))
 
-some_same : {f g : Form ℕ} → Some f ≡ Some g → f ≡ g
-some_same e = cc
-
 verdict_stands : (b : Bool) → stands (verdict b) ≡ b
 verdict_stands true = refl
 verdict_stands false = refl
@@ -158,19 +153,6 @@ module _ (choice : Choice ℕ) where
       ap (λ ys. stays_at (verdicts choice whole free (map outline_view ys)) 0) (drop_more xs i x h ∙ ap (λ y. y ∷ drop (i + 1) xs) (sym is))
       ∙ first_stays whole free (outline_view x) rest
       ∙ ap (λ w. keeps_node choice w free (outline_view x)) (sym e)
-
-  -- the formula of a condition
-  pub of_formula : (c : Condition ℕ) (f : Form ℕ) → Some f ≡ formula_of c → value_under choice f ≡ is_true choice c
-  of_formula none f e = cc
-  of_formula (on x) f e = ap (value_under choice) (some_same e)
-  of_formula (else_on x) f e = ap (value_under choice) (some_same e)
-  of_formula otherwise f e = cc
-
-  pub of_no_formula : (c : Condition ℕ) → None ≡ formula_of c → true ≡ is_true choice c
-  of_no_formula none e = refl
-  of_no_formula (on x) e = cc
-  of_no_formula (else_on x) e = cc
-  of_no_formula otherwise e = refl
 
 -- ---- sets that are found
 

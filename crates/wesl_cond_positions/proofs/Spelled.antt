@@ -20,7 +20,7 @@ use Rattle.wesl_tree_names.specs.Path.{Text}
 use Rattle.wesl_cond_alive.specs.Choices.{IsSetOf, choice_by, choice_of}
 use Rattle.wesl_cond_alive.specs.Kept.{is_faultless, kept_indexes, numbered_from}
 use Rattle.wesl_cond_alive.specs.Positions.{body_size, handed, is_plain, keeps_child, kept_at, kept_in, size}
-use Rattle.wesl_cond_alive.specs.Sound.{Outline, are_clean_after, is_conditional, is_rest_sound, is_whole, opens_chain, outline_of}
+use Rattle.wesl_cond_alive.specs.Sound.{Outline, are_clean_after, is_conditional, is_rest_sound, opens_chain, outline_of}
 use Rattle.wesl_cond_alive.proofs.Turns.{Verdict, goes, stays, picked, faultless_both, verdicts}
 use Rattle.wesl_cond_positions.specs.Found.{IsFound}
 use Rattle.wesl_cond_positions.specs.declared.lookup.Lookup.{Lookup}
@@ -110,9 +110,6 @@ module _ {I J : Type 0} (r : I → J) where
   sound_natural : (opened : Bool) (xs : List (Outline I)) → is_rest_sound opened (map respell_outline xs) ≡ is_rest_sound opened xs
   sound_natural opened [] = refl
   sound_natural opened (x ∷ xs) = rw (follows_natural x.condition, opens_natural x.condition, sound_natural opened xs, sound_natural (opens_chain x.condition) xs) refl
-
-  whole_natural : (whole : Bool) (x : Outline I) (xs : List (Outline I)) → is_whole whole (respell_outline x) (map respell_outline xs) ≡ is_whole whole x xs
-  whole_natural whole x xs = rw (follows_natural x.condition, opens_natural x.condition, conditional_natural x.condition, sound_natural (opens_chain x.condition) xs) refl
 
   body_at : (list last : ForestOf I) (b : Bool) → cond b (elements false (respell_forest r list) ++ elements true (respell_forest r last)) [] ≡ map (respell_element r) (cond b (elements false list ++ elements true last) [])
   body_at list last true = rw (elements_natural r false list, elements_natural r true last) (sym (map-append (respell_element r) (elements false list) (elements true last)))

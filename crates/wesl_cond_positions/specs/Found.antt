@@ -13,6 +13,7 @@ use Rattle.wesl_cond_alive.specs.Positions.{has, kept_at}
 use Rattle.wesl_cond_alive.specs.Sound.{Outline}
 use Rattle.wesl_cond_positions.specs.declared.lookup.Lookup.{Lookup}
 
+-- the choice with number k of the flags of a look-up, where a flag is a number of its table of names
 abbrev pub choice_in : Lookup → ℕ → Choice ℕ
 choice_in look k = choice_by look.names.now (texts look.flags.now) k
 
@@ -43,6 +44,6 @@ abbrev pub free_after : Choice ℕ → Bool → Bool → Outline ℕ → Bool
 free_after choice whole free x = cond x.is_void free (cond whole free (cond (follows_on x.condition) free true && not (is_true choice x.condition)))
 
 -- the set of the choices under which no branch was true, after a node
-pub record IsNarrowed (look : Lookup) (whole : Bool) (x : Outline ℕ) (old new : Choices) : Type 0 where
+pub record IsFreeAfter (look : Lookup) (whole : Bool) (x : Outline ℕ) (old new : Choices) : Type 0 where
   pub over : new.flags ≡ length look.flags.now
   pub set : IsSetOf (length look.flags.now) (λ k. free_after (choice_in look k) whole (holds old k) x) new

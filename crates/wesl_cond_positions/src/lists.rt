@@ -10,7 +10,7 @@ ghost use Rattle.wesl_cond_alive.specs.Kept.{kept_indexes};
 ghost use Rattle.wesl_cond_alive.specs.Positions.{has};
 ghost use Rattle.wesl_cond_alive.specs.Sound.{outline_of};
 ghost use Rattle.wesl_cond_alive.specs.Views.{outline_view};
-ghost use Rattle.wesl_cond_positions.specs.Found.{IsFound, IsNarrowed, choice_in, keeps_leaf, keeps_node};
+ghost use Rattle.wesl_cond_positions.specs.Found.{IsFound, IsFreeAfter, choice_in, keeps_leaf, keeps_node};
 
 use crate::lookup::Lookup;
 use std::alloc::{AllocError, Global};
@@ -105,7 +105,7 @@ impl<'a> Lookup<'a> {
         is_whole: bool,
     ) -> Result<(), AllocError>
         requires { free.old.flags ≡ length self.now.flags.now }
-        ensures { IfOk result (λ _. IsNarrowed self.now is_whole (outline_view node.now) free.old free.new) }
+        ensures { IfOk result (λ _. IsFreeAfter self.now is_whole (outline_view node.now) free.old free.new) }
     {
         if node.is_void || is_whole {
             return Ok(());

@@ -2,10 +2,8 @@
 ghost use Rattle.std.specs.Prelude.{◌≡◌, ℕ, IfOk, List, Some, map};
 ghost use Rattle.std.specs.Box.{box_value};
 ghost use Rattle.wesl_cond_chains.specs.Lists.{Element};
-ghost use Rattle.wesl_tree_syntax.specs.Tree.{before, clauses as clauses_kind, end, list, statements as statements_kind};
+ghost use Rattle.wesl_tree_syntax.specs.Tree.{clauses as clauses_kind, list, statements as statements_kind};
 ghost use Rattle.wesl_tree_syntax.specs.View.{clause_view, compound_view, continuing_view, else_if_view, else_view, if_view, listed, optional, selector_view, statement_tree, statement_view};
-ghost use Rattle.wesl_cond_alive.specs.Kept.{kept_indexes};
-ghost use Rattle.wesl_cond_alive.specs.Positions.{kept_at};
 ghost use Rattle.wesl_cond_alive.specs.Sound.{outline_of};
 ghost use Rattle.wesl_cond_alive.specs.Views.{outline_view};
 ghost use Rattle.wesl_cond_positions.specs.Found.{Finds, IsFound, keeps_in_body};

@@ -50,8 +50,9 @@ impl<'a> Lookup<'a> {
     }
 }
 
-/// The choices of a unit's flags that keep its node at a position (WESL, "ConditionalTranslation"). Nothing is at a position
-/// that leads nowhere, so no choice keeps that.
+/// The choices of a unit's flags that keep its node at a position (WESL, "ConditionalTranslation"). Where a list that is judged
+/// may lie ahead, no choice keeps what a position that leads nowhere tells; where none may, a position stands for the node in
+/// which it goes on.
 ///
 /// # Errors
 /// Want of memory.

@@ -140,9 +140,6 @@ module _ (known : Answers ℕ) where
   pub optional_settled : {A : Type 0} (view : A → Tree) (o : Option A) (x y : A) → o ≡ Some x → view y ≡ residual_tree known (view x) → optional view (Some y) ≡ residual_tree known (optional view o)
   optional_settled view o x y is e = ap (λ t. branch present (t ∷ [])) e ∙ ap (λ p. residual_tree known (optional view p)) (sym is)
 
-  pub absent_settled : {A : Type 0} (view : A → Tree) (o : Option A) → o ≡ None → optional view o ≡ residual_tree known (optional view o)
-  absent_settled view o is = ap (optional view) is ∙ ap (λ p. residual_tree known (optional view p)) (sym is)
-
   selector_left : (x : CaseSelector) → residual_tree known (selector_view x) ≡ selector_view x
   selector_left selectors.Default = refl
   selector_left (selectors.Expression e) = refl

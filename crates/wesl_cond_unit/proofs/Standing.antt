@@ -3,7 +3,7 @@ use Rattle.std.proofs.Common.{◌≡◌, ℕ, Bool, true, false, List, [], ◌�
 use Rattle.wesl_cond_chains.specs.Chains.{staying}
 use Rattle.wesl_cond_chains.specs.Faults.{Stands, here, inside, beside, list_faults, list_at}
 use Rattle.wesl_cond_chains.specs.Judging.{IsClear, Checks}
-use Rattle.wesl_cond_chains.specs.Lists.{Element, element, back, option_of, judged, is_entered, holds_body}
+use Rattle.wesl_cond_chains.specs.Lists.{Element, element, option_of, judged, is_entered, holds_body}
 use Rattle.wesl_cond_chains.specs.FormulaFaults.{Fault, IsAmong}
 use Rattle.wesl_cond_features.specs.Features.{Replies, known}
 use Rattle.wesl_cond_unit.proofs.Told.{TellsIn, TellsOf}

@@ -108,6 +108,3 @@ module _ {I N : Type 0} (J : Judged I N) where
   -- branch after branch, from the start
   pub scan_is : (known : Answers I) (ts : List N) → scan J known false false ts ≡ residual_list J known ts
   scan_is known ts = scan_after known false false ts ∙ after_start known (chains J (filter (is_node J) ts))
-
-  pub after_is : (known : Answers I) (ts : List N) → residual_after J known false false ts ≡ residual_list J known ts
-  after_is known ts = after_start known (chains J (filter (is_node J) ts))

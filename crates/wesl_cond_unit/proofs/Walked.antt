@@ -205,9 +205,6 @@ module _ (reply : Replies ℕ) where
     abbrev pub IsListed : List A → ℕ → Type 0
     IsListed xs i = Alike (forest_of (map view xs)) (forest_of (map view (drop i xs)))
 
-    pub listed_at_start : (xs : List A) → IsListed xs 0
-    listed_at_start xs f = (λ s. s, λ s. s)
-
     listed_here : (xs : List A) (i : ℕ) (x : A) → i < length xs → x ≡ get_or xs i x → IsListed xs i → Alike (forest_of (map view xs)) (before (view x) (forest_of (map view (drop (i + 1) xs))))
     listed_here xs i x lt is so_far = subst (λ v. Alike (forest_of (map view xs)) (before (view v) (forest_of (map view (drop (i + 1) xs))))) (sym is) (subst (λ l. Alike (forest_of (map view xs)) (forest_of (map view l))) (drop_more xs i x lt) so_far)
 

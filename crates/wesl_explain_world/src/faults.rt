@@ -1,6 +1,6 @@
 //! Why a bundle is refused.
 ghost use Rattle.std.specs.Prelude.{◌≡◌, ◌<◌, ◌≤◌, false, vec_len, IfOk};
-ghost use Rattle.wesl_tree_names.specs.Path.{path_view, is_relative};
+ghost use Rattle.wesl_tree_names.specs.Path.{is_relative};
 
 use crate::explanation::Fault;
 use crate::sources::Sources;

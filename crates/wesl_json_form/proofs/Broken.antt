@@ -331,9 +331,6 @@ not-false : (b : Bool) → not b ≡ false → b ≡ true
 not-false true h = refl
 not-false false h = absurd (no_truth (sym h))
 
-not-some : {A : Type 0} (o : Option A) → o ≡ None → is_some o ≡ false
-not-some o h = ap is_some h
-
 float-refused : (b : Bool) → b ≡ true → option_map leaf_of (any_leaf (not b)) ≡ None
 float-refused b h = rw h refl
 

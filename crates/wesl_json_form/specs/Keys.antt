@@ -6,6 +6,7 @@ use Rattle.serde_json.specs.Data.{Data, Members, no_members, member}
 use Rattle.serde_json.specs.Find.{as_object}
 use Rattle.wesl_tree_names.specs.Path.{Text}
 
+-- each of the members has one of the known keys; so it is where there are no members
 abbrev pub all_known : List Text → Members → Bool
 all_known known no_members = true
 all_known known (member k d ms) = list_any (λ x. bytes_eq x k) known && all_known known ms

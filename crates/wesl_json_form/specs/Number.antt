@@ -5,6 +5,7 @@ use Rattle.serde_json.specs.Data.{Num, unsigned, negative, float}
 use Rattle.wesl_json_form.specs.declared.number.NumberKind.{NumberKind}
 use Rattle.wesl_json_form.specs.declared.number.NumberKind.TheVariants.{Whole, Negative, Float}
 
+-- the number as JSON data has it: a whole one from 0 on, a whole one below 0, or a float
 abbrev pub num_of : NumberKind → Num
 num_of (Whole n) = unsigned n
 num_of (Negative z) = negative z

@@ -11,6 +11,7 @@ use Rattle.wesl_json_form.specs.Reading.{reading}
 use Rattle.wesl_json_form.specs.Writing.{written}
 use Rattle.wesl_json_form.specs.Units.{unit_tree, form_of, unit_value, unit_value_2}
 
+-- a span as data
 abbrev pub span_data : ℕ → ℕ → Data
 span_data s e = array (item (number (unsigned s)) (item (number (unsigned e)) no_items))
 
@@ -45,6 +46,7 @@ module _ {I : Type 0} (x y : I) (s e a b : ℕ) where
         ∷ []) ∷ []);
   }
 
+-- the unit with this one constant, with `x` as its name at 0 and `y` at 1
 abbrev pub constant_unit : UnitView
 constant_unit = record { names = codes "x" ∷ codes "y" ∷ []; imports = branch imports []; directives = branch directive_list []; declarations = branch declarations (const_tree 0 1 0 12 10 11 ∷ []) }
 
@@ -60,19 +62,23 @@ ConstantIsReadBare = (n : ℕ) → depth constant_data_1 < n → reading (form_o
 abbrev pub ConstantIsWritten : Type 0
 ConstantIsWritten = (unit_value_2 constant_unit ≡ constant_data_2) × (unit_value constant_unit ≡ constant_data_1)
 
--- members in the order of their keys
+-- the member `span` alone; in all rows members stand in the order of their keys
 abbrev pub only_span : ℕ → ℕ → Members
 only_span s e = member (codes "span") (span_data s e) no_members
 
+-- an object with this word at `k`, and these members behind it
 abbrev pub is_k : Text → Members → Data
 is_k w ms = object (member (codes "k") (string w) ms)
 
+-- form 2 reads the value as this tree, and writes the tree as this value
 abbrev pub Kept : Form → Data → Spelled → Type 0
 Kept f d t = (reading (whole_form true) 6 f d ≡ Some t) × (written true f t ≡ d)
 
+-- the value is not read: by form 2 where the flag is true, else by form 1
 abbrev pub Refused : Bool → Form → Data → Type 0
 Refused spans f d = reading (whole_form spans) 6 f d ≡ None
 
+-- what small rows are made of: trees of a truth value, a type and an identifier, and the object that the last is read from:
 abbrev pub truth_tree : Bool → ℕ → ℕ → Spelled
 truth_tree b s e = labelled (at expression_node s e) (branch literal (leaf_of (truth b) ∷ []) ∷ [])
 
@@ -89,6 +95,7 @@ named_data s a b = object (member (codes "name") (string s) (only_span a b))
 abbrev pub typed_data : Members → Data
 typed_data ms = object (member (codes "args") (array (item (named_data (codes "u32") 1 2) no_items)) (member (codes "name") (string (codes "f32")) ms))
 
+-- the tree of this type, in which the argument alone has a span
 abbrev pub typed_tree : Spelled
 typed_tree = branch type_expression (leaf_of (kind absent) ∷ leaf_of (ident reference (codes "f32"))
     ∷ branch present (branch list (branch template_argument (named_tree (codes "u32") 1 2 ∷ []) ∷ []) ∷ []) ∷ [])
@@ -105,14 +112,14 @@ WordsAreObjects =
     × (reading (whole_form true) 6 (node an_attribute) (is_k (codes "fragment") no_members) ≡ Some (labelled (at attribute_node 0 0) (leaf_of (kind fragment) ∷ [])))
     × Kept (node an_attribute) (string (codes "fragment")) (labelled (at attribute_node 0 0) (leaf_of (kind fragment) ∷ []))
 
--- unknown in form 1
+-- such objects, and spans, are refused in form 1
 abbrev pub WordsAreUnknown : Type 0
 WordsAreUnknown =
     Refused false (node an_expression) (is_k (codes "true") no_members)
     × Refused false (node an_attribute) (is_k (codes "fragment") no_members)
     × Refused false (node an_expression) (named_data (codes "y") 1 2)
 
--- an expression in other nodes, and types
+-- a type has a span in the place of an expression, a template argument and a case too, and none in the place of a type
 abbrev pub TypesArePlaced : Type 0
 TypesArePlaced =
     Kept (node an_expression) (named_data (codes "y") 10 11) (named_tree (codes "y") 10 11)
@@ -125,10 +132,11 @@ TypesArePlaced =
     × Refused true (node a_type) (typed_data (only_span 0 9))
     × Refused true (node a_type) (named_data (codes "y") 10 11)
 
--- spans
+-- a void with this value at `span`
 abbrev pub void_data : Data → Data
 void_data d = is_k (codes "void") (member (codes "span") d no_members)
 
+-- a span may be empty, and end at 4294967295; none is read that falls, ends later, or is no list of two whole numbers
 abbrev pub SpansAreOrdered : Type 0
 SpansAreOrdered =
     Kept (node a_declaration) (void_data (span_data 4294967295 4294967295)) (labelled (at declaration_node 4294967295 4294967295) (branch void [] ∷ []))
@@ -145,13 +153,15 @@ SpansAreOrdered =
 abbrev pub FallingIsWritten : Type 0
 FallingIsWritten = written true (node a_declaration) (labelled (at declaration_node 2 1) (branch void [] ∷ [])) ≡ void_data (span_data 2 1)
 
--- the key `form`
+-- an object with this value at `form` and nothing else
 abbrev pub form_data : Data → Data
 form_data d = object (member (codes "form") d no_members)
 
+-- the tree of a unit without imports, directives and declarations
 abbrev pub empty_tree : Spelled
 empty_tree = branch unit (branch imports [] ∷ branch directive_list [] ∷ branch declarations [] ∷ [])
 
+-- in form 2 `form` must be there and be 2, in form 1 it must not be there
 abbrev pub FormIsTwo : Type 0
 FormIsTwo =
     Kept (node a_unit) (form_data (number (unsigned 2))) empty_tree

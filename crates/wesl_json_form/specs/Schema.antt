@@ -9,15 +9,19 @@ use Rattle.wesl_tree_syntax.specs.Tree.{forest_of, Kind, Role, LabelOf, kind, Fo
 abbrev pub Spelled : Type 0
 Spelled = TreeOf Text
 
+-- trees after one another whose identifiers are names
 abbrev pub SpelledForest : Type 0
 SpelledForest = ForestOf Text
 
+-- a label in which an identifier is a name
 abbrev pub SpelledLabel : Type 0
 SpelledLabel = LabelOf Text
 
+-- the tree that has this label and no children
 abbrev pub leaf_of : SpelledLabel → Spelled
 leaf_of l = record { label = l; children = end }
 
+-- the tree that has this label and these trees as its children
 abbrev pub labelled : SpelledLabel → List Spelled → Spelled
 labelled l ts = record { label = l; children = forest_of ts }
 
@@ -26,10 +30,12 @@ abbrev pub look : {A : Type 0} → List (Text × A) → Text → Option A
 look [] s = None
 look (p ∷ ps) s = if bytes_eq s p.0 then Some p.1 else look ps s
 
+-- the text itself; none where it is empty
 abbrev pub nonempty : Text → Option Text
 nonempty [] = None
 nonempty (x ∷ xs) = Some (x ∷ xs)
 
+-- words, and the label that each stands for; of a word that stands twice the first counts
 abbrev pub Words : Type 0
 Words = List (Text × SpelledLabel)
 
@@ -85,6 +91,7 @@ pub data Name : Type 0 where
   an_expression : Name
   an_attribute : Name
 
+-- what a value is to be: a leaf, a list of values of one name whose tree is of this kind, or a value of one name
 pub data Form : Type 0 where
   leaf : Leaf → Form
   list_of : Kind → Name → Form
@@ -117,10 +124,12 @@ pub data Row : Type 0 where
   -- where so, a member that gives no child
   beside : Bool → Extra → Row → Row
 
+-- an object as a node: what its label is, and the members that give its children
 pub record Node : Type 0 where
   pub head : Head
   pub row : Row
 
+-- a node whose label is this kind, whatever its object has
 abbrev pub node_of_kind : Kind → Row → Node
 node_of_kind k row = record { head = fixed (kind k); row = row }
 
@@ -134,6 +143,7 @@ under h (marked k w row) = marked k w (under h row)
 under h (beside b x row) = beside b x (under h row)
 under h row = inner h row nothing
 
+-- a node of this kind whose one child is the other node; both are made of the same object
 abbrev pub within : Kind → Node → Node
 within k n = node_of_kind k (under n.head n.row)
 

@@ -29,6 +29,7 @@ AreDistinct names = (i j : ℕ) (s : Text) → slice_get names i ≡ Some s → 
 abbrev pub says_form : Data → Bool
 says_form d = is_some (get (codes "form") d)
 
+-- the form by which a value is read as a unit: form 2 where it has the key `form`, else form 1
 abbrev pub form_of : Data → Table
 form_of d = whole_form (says_form d)
 
@@ -57,8 +58,10 @@ shown_unit true u = placed u
 abbrev pub written_as : Bool → UnitView → Data
 written_as spans u = written spans (node a_unit) (unit_tree (shown_unit spans u))
 
+-- what a unit is written as in form 1, without its spans
 abbrev pub unit_value : UnitView → Data
 unit_value u = written_as false u
 
+-- what a unit is written as in form 2, with its spans
 abbrev pub unit_value_2 : UnitView → Data
 unit_value_2 u = written_as true u

@@ -30,11 +30,14 @@ borrowed_step (BorrowedValue-F.String s) = string s.now
 borrowed_step (BorrowedValue-F.Array v) = array (items_of v.now)
 borrowed_step (BorrowedValue-F.Object v) = object (put_all v.now no_members)
 
+-- the JSON data that a borrowed value stands for; of members with one key the last counts
 abbrev pub borrowed_view : BorrowedValue → Data
 borrowed_view = fold-BorrowedValue Data borrowed_step
 
+-- the JSON data that the items of a list stand for
 abbrev pub items_view : List BorrowedValue → Items
 items_view vs = items_of (map borrowed_view vs)
 
+-- the JSON data that the members of an object stand for; of those with one key the last counts
 abbrev pub members_view : List (Key × BorrowedValue) → Members
 members_view ms = put_all (map (λ m. (m.0, borrowed_view m.1)) ms) no_members

@@ -8,6 +8,7 @@ use Rattle.wesl_tree_syntax.specs.declared.declaration.AddressSpace.TheVariants 
 use Rattle.wesl_tree_syntax.specs.declared.declaration.AccessMode.TheVariants as access_mode
 use Rattle.wesl_json_form.specs.Schema.{Words}
 
+-- the words at `op` of a `unary`, and the operator that each stands for
 abbrev pub unary_words : Words
 unary_words =
     (codes "!", unary unary_operator.LogicalNegation)
@@ -17,6 +18,7 @@ unary_words =
     ∷ (codes "*", unary unary_operator.Indirection)
     ∷ []
 
+-- the words at `op` of a `binary`, and the operator that each stands for
 abbrev pub binary_words : Words
 binary_words =
     (codes "||", binary binary_operator.ShortCircuitOr)
@@ -39,6 +41,7 @@ binary_words =
     ∷ (codes ">>", binary binary_operator.ShiftRight)
     ∷ []
 
+-- the words at `op` of an `assign`, and the assignment that each stands for
 abbrev pub assignment_words : Words
 assignment_words =
     (codes "=", assignment assignment_operator.Equal)
@@ -54,6 +57,7 @@ assignment_words =
     ∷ (codes ">>=", assignment assignment_operator.ShiftRightAssign)
     ∷ []
 
+-- the words at `space` of a `var`, and the address space that each stands for
 abbrev pub space_words : Words
 space_words =
     (codes "function", space address_space.Function)
@@ -64,6 +68,7 @@ space_words =
     ∷ (codes "handle", space address_space.Handle)
     ∷ []
 
+-- the words at `access` of a `var`, and the access mode that each stands for
 abbrev pub access_words : Words
 access_words =
     (codes "read", access access_mode.Read)
@@ -71,6 +76,7 @@ access_words =
     ∷ (codes "read_write", access access_mode.ReadWrite)
     ∷ []
 
+-- the words of the attributes without operand: each stands as a text, and in form 2 also at `k` of an object
 abbrev pub attribute_words : Words
 attribute_words =
     (codes "const", kind const_attribute)

@@ -19,7 +19,7 @@ use Rattle.wesl_tree_syntax.specs.declared.statement.ElseIfClause.{ElseIfClause,
 use Rattle.wesl_tree_syntax.specs.declared.statement.IfClause.{IfClause, map-IfClause}
 use Rattle.wesl_tree_syntax.specs.declared.statement.SwitchClause.{SwitchClause, map-SwitchClause}
 use Rattle.wesl_tree_syntax.specs.declared.statement.Statement.TheOpen.{Statement-F, CompoundStatement-F, ContinuingStatement-F, ElseClause-F, ElseIfClause-F, IfClause-F, SwitchClause-F}
-use Rattle.wesl_tree_syntax.specs.declared.statement.Statement.TheFolds.{ind-Statement, ind-CompoundStatement, fold-roll-Statement, fold-roll-CompoundStatement, fold-roll-ContinuingStatement, fold-roll-ElseClause, fold-roll-ElseIfClause, fold-roll-IfClause, fold-roll-SwitchClause}
+use Rattle.wesl_tree_syntax.specs.declared.statement.Statement.TheFolds.{ind-CompoundStatement, fold-roll-Statement, fold-roll-CompoundStatement, fold-roll-ContinuingStatement, fold-roll-ElseClause, fold-roll-ElseIfClause, fold-roll-IfClause, fold-roll-SwitchClause}
 use Rattle.wesl_json_form.specs.Schema.{Spelled, SpelledLabel, a_statement, a_body, an_elif, an_else, a_clause, a_case, a_continuing, a_break_if, a_call, an_attribute, list_of, node, fixed, chosen, Row, nothing, needs, may, many, inner}
 use Rattle.wesl_json_form.specs.Words.{assignment_words}
 use Rattle.wesl_json_form.specs.Nodes.{statement_words, attrs, operand, expression, one_expression, body_row, condition_row, call_row}
@@ -243,16 +243,6 @@ module _ (spans : Bool) (f : ℕ → Text) where
   clause_each : (y : SwitchClause-F OfStatement OfCompoundStatement OfContinuingStatement OfElseClause OfElseIfClause OfIfClause OfSwitchClause) → IsClauseTree (clause_seen (clause_open y))
   clause_each y p = plain_node (attrs (many (codes "cases") (list_of list a_case) (needs (codes "body") (node a_body) nothing))) (record { long = refl; fits = refl; apart = refl }) (record { same_row = refl; no_mark = λ ms. refl }) refl refl
       (with_attributes spans f (kind switch_clause) (codes "attrs") _ _ y.attributes (listed (selectors_fit (kind list) y.case_selectors.items) (needed (as_body (kind switch_clause) _ y.body.1) all_there)))
-
-  pub statement_fits : (s : Statement) → IsStatementTree (statement_view s)
-  statement_fits = ind-Statement (λ x. IsStatementTree (statement_view x)) (λ x. IsBodyTree (compound_view x)) (λ x. IsContinuingTree (continuing_view x)) (λ x. IsElseTree (else_view x)) (λ x. IsElseIfTree (else_if_view x)) (λ x. IsIfTree (if_view x)) (λ x. IsClauseTree (clause_view x))
-      (λ x y is. subst IsStatementTree (sym (fold-roll-Statement Tree Tree Tree Tree Tree Tree Tree statement_step compound_step continuing_step else_step else_if_step if_step clause_step x)) (subst (λ z. IsStatementTree (statement_seen z)) is (statement_each y)))
-      (λ x y is. subst IsBodyTree (sym (fold-roll-CompoundStatement Tree Tree Tree Tree Tree Tree Tree statement_step compound_step continuing_step else_step else_if_step if_step clause_step x)) (subst (λ z. IsBodyTree (compound_seen z)) is (compound_each y)))
-      (λ x y is. subst IsContinuingTree (sym (fold-roll-ContinuingStatement Tree Tree Tree Tree Tree Tree Tree statement_step compound_step continuing_step else_step else_if_step if_step clause_step x)) (subst (λ z. IsContinuingTree (continuing_seen z)) is (continuing_each y)))
-      (λ x y is. subst IsElseTree (sym (fold-roll-ElseClause Tree Tree Tree Tree Tree Tree Tree statement_step compound_step continuing_step else_step else_if_step if_step clause_step x)) (subst (λ z. IsElseTree (else_seen z)) is (else_each y)))
-      (λ x y is. subst IsElseIfTree (sym (fold-roll-ElseIfClause Tree Tree Tree Tree Tree Tree Tree statement_step compound_step continuing_step else_step else_if_step if_step clause_step x)) (subst (λ z. IsElseIfTree (else_if_seen z)) is (else_if_each y)))
-      (λ x y is. subst IsIfTree (sym (fold-roll-IfClause Tree Tree Tree Tree Tree Tree Tree statement_step compound_step continuing_step else_step else_if_step if_step clause_step x)) (subst (λ z. IsIfTree (if_seen z)) is (if_each y)))
-      (λ x y is. subst IsClauseTree (sym (fold-roll-SwitchClause Tree Tree Tree Tree Tree Tree Tree statement_step compound_step continuing_step else_step else_if_step if_step clause_step x)) (subst (λ z. IsClauseTree (clause_seen z)) is (clause_each y)))
 
   pub compound_fits : (c : CompoundStatement) → IsBodyTree (compound_view c)
   compound_fits = ind-CompoundStatement (λ x. IsStatementTree (statement_view x)) (λ x. IsBodyTree (compound_view x)) (λ x. IsContinuingTree (continuing_view x)) (λ x. IsElseTree (else_view x)) (λ x. IsElseIfTree (else_if_view x)) (λ x. IsIfTree (if_view x)) (λ x. IsClauseTree (clause_view x))

@@ -4,6 +4,7 @@ use Rattle.std.specs.Ordering.{nat_cmp, match_ordering}
 use Rattle.std.specs.Cmp.Lexicographic.{slice_cmp}
 use Rattle.serde_json.specs.Data.{Members, no_members, member}
 
+-- the place after this one, with the same answer
 abbrev pub one_on : ℕ × Bool → ℕ × Bool
 one_on p = (suc p.0, p.1)
 

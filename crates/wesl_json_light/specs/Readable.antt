@@ -20,6 +20,7 @@ is_text_of (kind diagnostic) s = true
 is_text_of (kind diagnostic_directive) s = true
 is_text_of _ s = is_some (nonempty s)
 
+-- each of the texts is nonempty; so it is where there are none
 abbrev pub are_names : List Text → Bool
 are_names [] = true
 are_names (s ∷ ss) = is_some (nonempty s) && are_names ss
@@ -38,7 +39,8 @@ abbrev pub are_readable : SpelledLabel → SpelledForest → Bool
 are_readable p end = true
 are_readable p (tree l children others) = is_readable p l && (are_readable l children && are_readable p others)
 
--- a unit whose names are nonempty, whose literal texts are as the format says, whose path texts say paths, and whose spans do not fall
+-- A unit whose names are nonempty, whose literal texts are as the format says, whose path texts say paths, and whose spans do
+-- not fall.
 abbrev pub IsReadable : UnitOf Text → Type 0
 IsReadable u = are_readable (kind unit) (forest_of_unit u) ≡ true
 

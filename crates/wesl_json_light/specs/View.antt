@@ -6,6 +6,7 @@ use Rattle.serde_json.specs.View.{items_of}
 use Rattle.wesl_json_light.specs.declared.piece.Piece.{Piece, fold-Piece}
 use Rattle.wesl_json_light.specs.declared.piece.Piece.TheOpen.{Piece-F}
 
+-- the members in the order in which they stand; none is put in the place of another
 abbrev pub members_of : List (Bor (List ℕ) × Data) → Members
 members_of [] = no_members
 members_of (m ∷ ms) = member m.0.now m.1 (members_of ms)
@@ -19,11 +20,14 @@ piece_step (Piece-F.Owned s) = string (string_bytes s)
 piece_step (Piece-F.List v) = array (items_of v.items)
 piece_step (Piece-F.Object v) = object (members_of v.items)
 
+-- the JSON data that a piece stands for
 abbrev pub piece_view : Piece → Data
 piece_view = fold-Piece Data piece_step
 
+-- the JSON data that the items of a list stand for
 abbrev pub items_view : List Piece → Items
 items_view ps = items_of (map piece_view ps)
 
+-- the JSON data that the members of an object stand for, in the order in which they stand
 abbrev pub members_view : List (Bor (List ℕ) × Piece) → Members
 members_view ms = members_of (map (λ m. (m.0, piece_view m.1)) ms)

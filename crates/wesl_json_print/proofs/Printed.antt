@@ -10,15 +10,12 @@ use Rattle.wesl_json_light.specs.View.{items_view}
 use Rattle.wesl_json_light.specs.declared.piece.Piece.{Piece}
 use Rattle.wesl_json_print_nodes.specs.Printing.{PrintsTokens, Prints, PrintsList, PrintsMembers, inside}
 use Rattle.wesl_json_print_nodes.specs.declared.printer.Printer.{Printer}
-use Rattle.wesl_json_print_nodes.proofs.Adding.{keyed, none, then, told}
+use Rattle.wesl_json_print_nodes.proofs.Adding.{keyed, then, told}
 use Rattle.wesl_json_print_nodes.proofs.Parts.{Part, part, arranged, list_part, object_tokens, put_part, puts_before, tokens_of}
 use Rattle.wesl_json_write.specs.Values.{bare, with_list}
 use Rattle.wesl_tree_names.specs.Path.{Text}
 
 -- ---- a list of pieces
-
-pub no_pieces : (vs : List Piece) (ds : Items) (k : Text) (a : Printer) → vs ≡ [] → items_view vs ≡ ds → PrintsList a a k ds
-no_pieces vs ds k a empty is = told (ap (λ es. inside (put_list k (array es) no_members)) (sym (ap items_view empty) ∙ is)) (none a)
 
 pub some_pieces : {a b c d : Printer} (vs : List Piece) (ds : Items) (k : Text) → 0 < length vs → items_view vs ≡ ds → PrintsTokens a b (key k ∷ []) → PrintsTokens b c (begin_array ∷ []) → PrintsTokens c d (items_tokens (items_outline (items_view vs))) → PrintsList a d k ds
 some_pieces [] ds k some is h i j = absurd (omega arith)

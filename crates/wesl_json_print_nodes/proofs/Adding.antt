@@ -1,5 +1,5 @@
 -- What is printed by steps one after another.
-use Rattle.std.proofs.Common.{◌≡◌, List, [], ◌∷◌, ◌++◌, false, true, true≢false, append_assoc, append-nil, refl, sym, ap, ◌∙◌}
+use Rattle.std.proofs.Common.{◌≡◌, List, [], ◌∷◌, ◌++◌, false, true≢false, append_assoc, append-nil, refl, sym, ap, ◌∙◌}
 use Rattle.std.specs.Prelude.{IsOk, Ok, Err, OnOk, Result}
 use Rattle.json.specs.Token.{Token, key}
 use Rattle.json.specs.Tree.{json_tokens}
@@ -7,7 +7,7 @@ use Rattle.json.specs.Written.{Writes, Written}
 use Rattle.serde_json.specs.Data.{Data, string, Members}
 use Rattle.serde_json.specs.Written.{outline}
 use Rattle.wesl_tree_names.specs.Path.{Text}
-use Rattle.wesl_json_print_nodes.specs.Printing.{PrintsTokens, Prints, PrintsMember, PrintsMembers, inside}
+use Rattle.wesl_json_print_nodes.specs.Printing.{PrintsTokens, PrintsMember, PrintsMembers, inside}
 use Rattle.wesl_json_print_nodes.specs.declared.printer.Printer.{Printer}
 
 -- two steps
@@ -54,10 +54,6 @@ written {E} {old} {new} {out} {ts} r tokens before is done noted = record {
 
 pub token : {E : Type 0} {old new : Printer} {out : Written} {t : Token} (r : Result (Unit {0}) E) → Writes r old.out out t → new.out ≡ out → (new.is_refused ≡ false → IsOk r) → (new.is_refused ≡ false → old.is_refused ≡ false) → PrintsTokens old new (t ∷ [])
 token r w is done noted = written r w.ok w.room.0 is done noted
-
--- nothing is promised where memory was wanting
-pub refused : (a b : Printer) (ts : List Token) → (b.is_refused ≡ false → ⊥) → PrintsTokens a b ts
-refused a b ts never = record { tokens = λ kept. absurd (never kept); before = λ kept. absurd (never kept); noted = λ kept. absurd (never kept) }
 
 -- the same members, told otherwise
 pub members_are : {a b : Printer} {ms ns : Members} → ns ≡ ms → PrintsMembers a b ms → PrintsMembers a b ns

@@ -1,5 +1,5 @@
 -- The tokens of each attribute, in the order in which they are printed.
-use Rattle.std.proofs.Common.{◌≡◌, List, [], ◌∷◌, Option, Some, None, Vec, Global, String, Bool, true, false, codes, refl, sym, ap, ◌∙◌}
+use Rattle.std.proofs.Common.{◌≡◌, List, [], ◌∷◌, Option, Some, None, Vec, Global, Bool, true, false, codes, refl, sym, ap, ◌∙◌}
 use Rattle.json.specs.Token.{begin_object}
 use Rattle.json.specs.Tree.{json_tokens}
 use Rattle.serde_json.specs.Data.{Data, array, object, string, Items, no_members}
@@ -9,7 +9,7 @@ use Rattle.wesl_json_form.specs.Writing.{is_placed}
 use Rattle.wesl_json_print_nodes.specs.Printing.{PrintsTokens, Prints, at_place, custom_tree, diagnosed}
 use Rattle.wesl_json_print_nodes.specs.declared.printer.Printer.{Printer}
 use Rattle.wesl_json_print_nodes.proofs.Adding.{told}
-use Rattle.wesl_json_print_nodes.proofs.Parts.{Part, part, are_apart, arranged, list_part, option_part, option_put, placed_tokens, put_part, puts, puts_before, span_part, tokens_of}
+use Rattle.wesl_json_print_nodes.proofs.Parts.{Part, part, are_apart, arranged, list_part, option_part, option_put, placed_tokens, puts, puts_before, span_part, tokens_of}
 use Rattle.wesl_json_write.specs.Values.{attribute_at, attribute_in, expression_data, items_in, place_label, placed_data, with_list, with_member, with_option, with_place, workgroup_size, worded}
 use Rattle.wesl_json_write.proofs.Imports.{as-custom, as-named}
 use Rattle.wesl_json_write.proofs.PlacedShort.{placed-attribute}

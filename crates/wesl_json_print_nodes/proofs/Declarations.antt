@@ -1,11 +1,11 @@
 -- The tokens of each declaration, in the order in which they are printed.
-use Rattle.std.proofs.Common.{◌≡◌, List, [], ◌∷◌, Option, Some, None, Vec, Global, String, Bool, true, false, codes, string_bytes, refl, sym, ap, ◌∙◌}
+use Rattle.std.proofs.Common.{◌≡◌, List, [], ◌∷◌, Option, Some, None, Bool, true, false, codes, string_bytes, refl, sym, ap, ◌∙◌}
 use Rattle.std.specs.Prelude.{is_none}
 use Rattle.json.specs.Token.{begin_object}
 use Rattle.json.specs.Tree.{json_tokens}
-use Rattle.serde_json.specs.Data.{Data, null, object, string, Items, Members, no_members}
+use Rattle.serde_json.specs.Data.{Data, null, object, string, Members, no_members}
 use Rattle.serde_json.specs.Written.{outline}
-use Rattle.wesl_json_form.specs.Schema.{node, a_body, a_member, a_parameter, a_type, an_attribute, an_expression}
+use Rattle.wesl_json_form.specs.Schema.{node, a_member, a_parameter, a_type, an_attribute, an_expression}
 use Rattle.wesl_json_form.specs.Words.{access_words, space_words}
 use Rattle.wesl_json_print_nodes.specs.Printing.{PrintsTokens, Prints, access_member, at_place, inside, space_member}
 use Rattle.wesl_json_print_nodes.specs.declared.printer.Printer.{Printer}
@@ -20,8 +20,7 @@ use Rattle.wesl_tree_base.specs.declared.span.Span.{Span}
 use Rattle.wesl_tree_names.specs.Path.{Text}
 use Rattle.wesl_tree_syntax.specs.Tree.{Kind, Tree, access, branch, declaration_node, member_node, members, parameters, space, statement_node, void}
 use Rattle.wesl_tree_syntax.specs.Unit.{name_in}
-use Rattle.wesl_tree_syntax.specs.View.{alias_view, assert_view, compound_view, declaration_view, expression_tree, function_view, kind_tree, listed, member_view, optional, parameter_view, placed, struct_view, type_view}
-use Rattle.wesl_tree_syntax.specs.declared.span.Spanned.{Spanned}
+use Rattle.wesl_tree_syntax.specs.View.{alias_view, assert_view, declaration_view, expression_tree, function_view, kind_tree, listed, member_view, optional, parameter_view, placed, struct_view, type_view}
 use Rattle.wesl_tree_syntax.specs.declared.expression.TypeExpression.{TypeExpression}
 use Rattle.wesl_tree_syntax.specs.declared.declaration.AccessMode.{AccessMode}
 use Rattle.wesl_tree_syntax.specs.declared.declaration.DeclarationKind.{DeclarationKind}

@@ -1,5 +1,5 @@
 -- The tokens of each expression, in the order in which they are printed.
-use Rattle.std.proofs.Common.{◌≡◌, List, [], ◌∷◌, ◌++◌, Option, Some, None, String, Vec, Global, Bool, true, false, codes, string_bytes, refl, sym, ap, ◌∙◌, subst}
+use Rattle.std.proofs.Common.{◌≡◌, List, [], ◌∷◌, Option, Some, None, String, Vec, Global, Bool, true, false, codes, string_bytes, refl, sym, ap, ◌∙◌, subst}
 use Rattle.std.specs.Box.{box_value}
 use Rattle.std.specs.Global.{Box}
 use Rattle.json.specs.Token.{begin_object}
@@ -21,9 +21,9 @@ use Rattle.wesl_tree_names.specs.Path.{Text, path_view}
 use Rattle.wesl_tree_names.specs.PathText.{to_text}
 use Rattle.wesl_tree_names.specs.declared.names.Ident.{Ident}
 use Rattle.wesl_tree_names.specs.declared.path.ModulePath.{ModulePath}
-use Rattle.wesl_tree_syntax.specs.Tree.{Tree, absent, binary, branch, expression_node, kind, leaf as leaf_tree, list, literal, reference, type_expression, unary}
+use Rattle.wesl_tree_syntax.specs.Tree.{binary, branch, expression_node, list, literal, unary}
 use Rattle.wesl_tree_syntax.specs.Unit.{name_in}
-use Rattle.wesl_tree_syntax.specs.View.{argument_view, boxed_path, call_view, expression_tree, expression_view, ident_tree, listed, literal_tree, optional, type_view}
+use Rattle.wesl_tree_syntax.specs.View.{argument_view, boxed_path, call_view, expression_tree, expression_view, listed, literal_tree, type_view}
 use Rattle.wesl_tree_syntax.specs.declared.span.Spanned.{Spanned}
 use Rattle.wesl_tree_syntax.specs.declared.expression.UnaryOperator.{UnaryOperator}
 use Rattle.wesl_tree_syntax.specs.declared.expression.BinaryOperator.{BinaryOperator}

@@ -17,7 +17,7 @@ use Rattle.wesl_json_write.proofs.Placed.{span_by}
 use Rattle.wesl_json_write.specs.Values.{end_of, place_label, placed_data, start_of, value_in, with_member, with_option, with_place}
 use Rattle.wesl_tree_base.specs.declared.span.Span.{Span}
 use Rattle.wesl_tree_names.specs.Path.{Text}
-use Rattle.wesl_tree_syntax.specs.Tree.{Kind, Tree, at}
+use Rattle.wesl_tree_syntax.specs.Tree.{Kind, Tree}
 use Rattle.wesl_tree_syntax.specs.View.{optional}
 
 -- a member: its key, whether it is left out, and its value

@@ -4,7 +4,7 @@ use Rattle.std.specs.Box.{box_value}
 use Rattle.std.specs.Global.{Box}
 use Rattle.json.specs.Token.{begin_object}
 use Rattle.json.specs.Tree.{json_tokens}
-use Rattle.serde_json.specs.Data.{Data, array, object, string, Items, Members, no_members}
+use Rattle.serde_json.specs.Data.{Data, object, string, Items, no_members}
 use Rattle.serde_json.specs.Written.{outline}
 use Rattle.wesl_json_form.specs.Schema.{node, a_body, a_break_if, a_case, a_clause, a_continuing, a_statement, an_attribute, an_elif, an_else, an_expression}
 use Rattle.wesl_json_form.specs.Words.{assignment_words}
@@ -13,23 +13,21 @@ use Rattle.wesl_json_print_nodes.specs.Printing.{PrintsTokens, Prints, at_place,
 use Rattle.wesl_json_print_nodes.specs.declared.printer.Printer.{Printer}
 use Rattle.wesl_json_print_nodes.proofs.Adding.{told}
 use Rattle.wesl_json_print_nodes.proofs.Parts.{Part, part, are_apart, arranged, list_part, object_tokens, option_part, option_put, placed_tokens, put_part, puts, puts_before, span_part, tokens_of}
-use Rattle.wesl_json_write.specs.Values.{assigned, bare, body_members, call_members, expression_data, items_in, place_label, statement_at, statement_in, value_in, with_attributes, with_clause, with_list, with_member, with_option, with_place, worded}
-use Rattle.wesl_json_write.proofs.Blocks.{Attributes, as-assignment, as-block, as-body, as-body-value, as-break, as-call, as-clause, as-continue, as-continuing, as-decrement, as-discard, as-elif, as-else, as-for, as-if, as-if-clause, as-increment, as-loop, as-return, as-switch, as-while, children_of}
+use Rattle.wesl_json_write.specs.Values.{assigned, bare, call_members, expression_data, items_in, statement_at, statement_in, value_in, with_attributes, with_clause, with_list, with_member, with_option, worded}
+use Rattle.wesl_json_write.proofs.Blocks.{Attributes, as-block, as-body, as-body-value, as-clause, as-continuing, as-elif, as-else, as-for, as-if, as-if-clause, as-loop, as-switch, as-while, children_of}
 use Rattle.wesl_json_write.proofs.Imports.{as-break-if, as-case, as-default}
 use Rattle.wesl_json_write.proofs.Placed.{placed-statement}
 use Rattle.wesl_tree_base.specs.declared.span.Span.{Span}
 use Rattle.wesl_tree_names.specs.Path.{Text}
 use Rattle.wesl_tree_syntax.specs.Tree.{assignment, clauses, list, statement_node, statements}
-use Rattle.wesl_tree_syntax.specs.View.{attributes_tree, break_if_view, call_view, clause_view, compound_view, continuing_view, else_if_view, else_view, expression_tree, if_view, listed, optional, selector_view, statement_tree, statement_view}
+use Rattle.wesl_tree_syntax.specs.View.{break_if_view, call_view, clause_view, compound_view, continuing_view, else_if_view, else_view, expression_tree, if_view, listed, optional, selector_view, statement_tree, statement_view}
 use Rattle.wesl_tree_syntax.specs.declared.span.Spanned.{Spanned}
-use Rattle.wesl_tree_syntax.specs.declared.attribute.Attribute.{Attribute}
 use Rattle.wesl_tree_syntax.specs.declared.expression.Expression.{Expression}
 use Rattle.wesl_tree_syntax.specs.declared.expression.FunctionCall.{FunctionCall}
 use Rattle.wesl_tree_syntax.specs.declared.statement.AssignmentOperator.{AssignmentOperator}
 use Rattle.wesl_tree_syntax.specs.declared.statement.CaseSelector.{CaseSelector}
 use Rattle.wesl_tree_syntax.specs.declared.statement.CaseSelector.TheVariants as selectors
 use Rattle.wesl_tree_syntax.specs.declared.statement.Statement.{Statement}
-use Rattle.wesl_tree_syntax.specs.declared.statement.Statement as stated
 use Rattle.wesl_tree_syntax.specs.declared.statement.Statement.TheViews as made
 use Rattle.wesl_tree_syntax.specs.declared.statement.BreakIfStatement.{BreakIfStatement}
 use Rattle.wesl_tree_syntax.specs.declared.statement.CompoundStatement.{CompoundStatement, out-CompoundStatement}

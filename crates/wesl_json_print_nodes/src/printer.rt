@@ -3,7 +3,7 @@ ghost use Rattle.std.specs.Prelude.{◌≡◌, [], ◌∷◌, codes, false, IfOk
 ghost use Rattle.json.specs.Token.{begin_array, begin_object, end_array, end_object, key as key_token};
 ghost use Rattle.serde_json.specs.Data.{boolean, no_members, number, string, unsigned};
 ghost use Rattle.wesl_json_form.specs.Writing.{put_span};
-ghost use Rattle.wesl_json_write.specs.Values.{place_label, with_member};
+ghost use Rattle.wesl_json_write.specs.Values.{place_label};
 ghost use Rattle.wesl_tree_names.specs.Path.{path_view};
 ghost use Rattle.wesl_tree_names.specs.PathText.{to_text};
 ghost use Rattle.wesl_tree_syntax.specs.Tree.{Kind};
@@ -25,7 +25,7 @@ pub struct Printer {
 }
 
 impl Printer {
-    ghost use Rattle.wesl_json_print_nodes.specs.Printing.{PrintsTokens, Prints, PrintsList, PrintsMember, PrintsMembers};
+    ghost use Rattle.wesl_json_print_nodes.specs.Printing.{PrintsTokens, Prints, PrintsMember, PrintsMembers};
 
     /// A printer behind what a writer holds.
     pub fn new(alloc: Global, out: Writer) -> Printer

@@ -1,4 +1,4 @@
--- An expression that is put into a box, or is a template argument.
+-- A path that is put into a box, and an expression that is a template argument.
 use Rattle.std.proofs.Common.{◌≡◌, [], ◌∷◌, Option, Some, None, subst, sym}
 use Rattle.std.specs.Box.{box_value}
 use Rattle.std.specs.Global.{Box}
@@ -13,22 +13,14 @@ use Rattle.wesl_tree_syntax.specs.declared.expression.TemplateArg.{roll-Template
 use Rattle.wesl_tree_syntax.specs.declared.expression.Expression.{Expression}
 use Rattle.wesl_tree_syntax.specs.declared.span.Spanned.{Spanned}
 use Rattle.wesl_json_form.specs.Schema.{a_path, a_template_argument, an_expression, leaf, node}
-use Rattle.wesl_json_read.specs.Faults.{IsInside, IsMemberBroken, LocatesInside, LocatesMember}
-use Rattle.wesl_json_read.specs.Noted.{Never, Notes, NotesForm, NotesMay, NotesNeeded}
-use Rattle.wesl_json_read.specs.NotedNodes.{held}
-use Rattle.wesl_json_read.specs.Numbers.{Reads, ReadsMay, ReadsNeeded}
+use Rattle.wesl_json_read.specs.Faults.{IsInside, LocatesInside}
+use Rattle.wesl_json_read.specs.Noted.{Never, Notes, NotesForm, NotesMay}
+use Rattle.wesl_json_read.specs.Numbers.{Reads, ReadsMay}
 use Rattle.wesl_json_read.specs.declared.reader.Reader.{Reader}
 use Rattle.wesl_json_read.proofs.Noting.{both, seen, weaker}
 use Rattle.wesl_json_read.proofs.Places.{memory}
 use Rattle.wesl_json_read.proofs.Arguments.{argument-form, argument-place}
 use Rattle.wesl_json_read.proofs.Trees.{made_argument}
-
-pub in_box : {k : Text} {d : Data} (x : Spanned Expression) {s m e : Reader} (o : Option (Box (Spanned Expression))) → NotesNeeded k (node an_expression) d (expression_tree x) s m → IfSome o (λ b. (box_value b ≡ x) × (e ≡ m)) → IfNone o (Notes Never (λ _ y. y ≡ error.Memory) m e) → NotesNeeded k (node an_expression) d (held o) s e
-in_box {k} {d} x {s} {m} {e} None n same refused =
-    both {P = λ spans. ReadsNeeded spans k (node an_expression) d (expression_tree x)} {T = λ spans. LocatesMember spans k (node an_expression) d} {Q = Never} (λ a b c y never. absurd never) n
-    (weaker {Q = Never} (λ a b never. never) (λ y is. memory (IsMemberBroken m.spans k (node an_expression) d) y is) refused)
-in_box {k} {d} x {s} {m} {e} (Some b) n same refused =
-    subst (λ z. NotesNeeded k (node an_expression) d (expression_tree z) s e) (sym same.0) (subst (λ z. NotesNeeded k (node an_expression) d (expression_tree x) s z) (sym same.1) n)
 
 -- a path, in its box
 pub path_in_box : {k : Text} {d : Data} (p : ModulePath) {s m e : Reader} (o : Option (Box ModulePath)) → NotesMay k (leaf a_path) d (optional path_tree (Some p)) s m → IfSome o (λ b. (box_value b ≡ p) × (e ≡ m)) → IfNone o (Notes Never (λ _ y. y ≡ error.Memory) m e) → NotesMay k (leaf a_path) d (optional boxed_path o) s e

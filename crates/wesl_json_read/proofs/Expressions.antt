@@ -11,7 +11,7 @@ use Rattle.wesl_json_form.specs.Nodes.{nodes_of, shorts_of, all_expression_words
 use Rattle.wesl_json_form.specs.Reading.{known_keys, span_in}
 use Rattle.wesl_json_form.specs.Keys.{has_only}
 use Rattle.wesl_json_read.specs.Faults.{IsAtRoot, Locates, LocatesRow, LocatesSpan}
-use Rattle.wesl_json_read.specs.Forms.{HasExpressionWord, ReadsBare, ReadsExpressionOf, expression_of, expression_text, expression_head, expression_row, row_of_expression}
+use Rattle.wesl_json_read.specs.Forms.{HasExpressionWord, ReadsTypeOrIdentifier, ReadsExpressionOf, expression_of, expression_text, expression_head, expression_row, row_of_expression}
 use Rattle.wesl_json_read.specs.declared.words.ExpressionWord.{ExpressionWord}
 use Rattle.wesl_json_read.specs.Numbers.{Reads, ReadsRows, ReadsType}
 use Rattle.wesl_json_read.proofs.Places.{keys-place, node-row, span-place}
@@ -51,8 +51,8 @@ module _ (spans : Bool) where
 
 module _ {spans : Bool} where
   -- an object that is a type, as an expression
-  pub bare-type : (d : Data) (t : Tree) (a b : List Text) → ReadsType spans spans d t a b → ReadsBare spans d (branch type_or_identifier (t ∷ [])) a b
-  bare-type d t a b r = subst (λ x. ReadsBare spans d (branch type_or_identifier (x ∷ [])) a b) (sym r.is_type) (record { known = r.known; inside = inner-then (plain-kind type_or_identifier) refl (inner-then (plain-kind type_expression) refl (record { row_is = r.row_is }) (none-then d b)) (none-then d b) })
+  pub bare-type : (d : Data) (t : Tree) (a b : List Text) → ReadsType spans spans d t a b → ReadsTypeOrIdentifier spans d (branch type_or_identifier (t ∷ [])) a b
+  bare-type d t a b r = subst (λ x. ReadsTypeOrIdentifier spans d (branch type_or_identifier (x ∷ [])) a b) (sym r.is_type) (record { known = r.known; inside = inner-then (plain-kind type_or_identifier) refl (inner-then (plain-kind type_expression) refl (record { row_is = r.row_is }) (none-then d b)) (none-then d b) })
 
 module _ (spans : Bool) where
   -- a word that names no expression

@@ -1,23 +1,22 @@
 -- What is read of one member, of a node, and of a value that is no object.
-use Rattle.std.proofs.Common.{◌≡◌, ◌⊎◌, ◌&&◌, nat_lt, ℕ, suc, zero, ◌+◌, ◌<◌, ◌≤◌, List, [], ◌∷◌, ◌++◌, Bool, true, false, length, get_or, slice_get, Option, Some, None, if◌then◌else◌, option_map, option_and_then, codes, refl, sym, ap, ◌∙◌, inl, inr, ⊎_elim, append-nil, length-append, arith}
+use Rattle.std.proofs.Common.{◌≡◌, ◌⊎◌, ◌&&◌, nat_lt, ℕ, suc, zero, ◌+◌, ◌<◌, ◌≤◌, List, [], ◌∷◌, ◌++◌, Bool, true, length, get_or, slice_get, Option, Some, None, if◌then◌else◌, option_map, option_and_then, codes, refl, sym, ap, ◌∙◌, inl, inr, ⊎_elim, append-nil, length-append, arith}
 use Rattle.std.specs.Option.{is_some}
 use Rattle.std.proofs.lemmas.Bool.Decides.{nat_tests}
 use Rattle.std.proofs.lemmas.Slice.Eq.{bytes_eq-Decides}
-use Rattle.serde_json.specs.Data.{Data, null, boolean, number, string, array, object, depth}
-use Rattle.serde_json.specs.Find.{get, as_bool, as_object, as_str}
+use Rattle.serde_json.specs.Data.{Data, depth}
+use Rattle.serde_json.specs.Find.{get, as_object, as_str}
 use Rattle.wesl_tree_names.specs.Path.{Text}
-use Rattle.wesl_tree_syntax.specs.Tree.{Kind, Role, reference, Label, kind, at, ident, truth, Tree, Forest, end, before, leaf as leaf_tree, forest_of, branch, present, absent, expression_node, literal, type_or_identifier, type_expression}
+use Rattle.wesl_tree_syntax.specs.Tree.{Kind, Role, reference, Label, kind, ident, Tree, Forest, end, before, leaf as leaf_tree, branch, present, absent, type_expression}
 use Rattle.wesl_tree_syntax.specs.Unit.{name_in}
-use Rattle.wesl_json_form.specs.Schema.{Spelled, SpelledForest, SpelledLabel, leaf_of, labelled, look, Form, leaf, list_of, node, Leaf, an_ident, Name, an_expression, chosen, Node}
-use Rattle.wesl_json_form.specs.Nodes.{shorts_of, short_type, short_expression}
-use Rattle.wesl_json_form.specs.Reading.{reading, leaf_label, name_in as name_of, word_in, needed, optional, or_empty, empty_of, children_in, node_in, label_in, known_keys}
+use Rattle.wesl_json_form.specs.Schema.{Spelled, SpelledForest, SpelledLabel, leaf_of, look, Form, leaf, list_of, node, an_ident, Name, chosen, Node}
+use Rattle.wesl_json_form.specs.Reading.{reading, name_in as name_of, word_in, needed, optional, or_empty, empty_of, children_in, node_in, label_in, known_keys}
 use Rattle.wesl_json_form.specs.Keys.{has_only}
 use Rattle.wesl_json_form.specs.Units.{NumberedFrom}
 use Rattle.wesl_json_form.specs.Nodes.{whole_form, nodes_of}
 use Rattle.wesl_json_read.specs.Forms.{HasWord}
 use Rattle.wesl_json_read.specs.Numbers.{Begins, IsNumbered, IsReadAs, AreReadAs, ReadsForm, ReadsMember, ReadsOptional, ReadsList, ReadsRow, ReadsPlain}
 use Rattle.wesl_json_read.proofs.Depths.{get-depth}
-use Rattle.wesl_json_read.proofs.Rows.{IsPlain, plain-kind, over, none-read, Begins-same}
+use Rattle.wesl_json_read.proofs.Rows.{IsPlain, plain-kind, over, none-read}
 use Rattle.wesl_json_read.proofs.Lists.{one-up}
 
 -- ---- names
@@ -41,31 +40,7 @@ name-begin (x ∷ xs) ys (suc i) s h = name-begin xs ys i s h
 pub name-later : (new names : List Text) (i : ℕ) (s : Text) → slice_get new i ≡ Some s → Begins new names → name_in names i ≡ s
 name-later new names i s named later = ap (λ ns. get_or ns i []) later.1 ∙ name-begin new later.0 i s named
 
--- ---- leaves
-
 module _ (spans : Bool) where
-  leaf-case : {A : Type 0} (read : Data → Option A) (l : Leaf) (g : A → SpelledLabel) (k : Text) (d : Data) (x : A) (o : Option Data) → ((v : Data) → leaf_label l v ≡ option_map g (read v)) → get k d ≡ o → option_and_then read o ≡ Some x → (n : ℕ) → depth d ≤ n → needed (reading (whole_form spans) n (leaf l)) o ≡ Some (leaf_of (g x))
-  leaf-case read l g k d x None agree found h n low = cc
-  leaf-case read l g k d x (Some e) agree found h zero low = let below = get-depth k d e found in absurd (omega arith)
-  leaf-case read l g k d x (Some e) agree found h (suc n) low = ap (option_map leaf_of) (agree e ∙ ap (option_map g) h)
-
-  leaf-read : {A : Type 0} (read : Data → Option A) (l : Leaf) (g : A → SpelledLabel) (k : Text) (d : Data) (x : A) → ((v : Data) → leaf_label l v ≡ option_map g (read v)) → option_and_then read (get k d) ≡ Some x → (n : ℕ) → depth d ≤ n → needed (reading (whole_form spans) n (leaf l)) (get k d) ≡ Some (leaf_of (g x))
-  leaf-read read l g k d x agree h n low = leaf-case read l g k d x (get k d) agree refl h n low
-
-  -- a name that gets its number
-  pub member-ident : (r : Role) (k : Text) (d : Data) (s : Text) (i : ℕ) (old new : List Text) → option_and_then name_of (get k d) ≡ Some s → IsNumbered old s i new → ReadsMember spans k (leaf (an_ident r)) d (leaf_tree (ident r i)) old new
-  member-ident r k d s i old new h num = record {
-    spelled = λ n names low later. leaf-read name_of (an_ident r) (ident r) k d s (λ v. refl) h n low ∙ ap (λ x. Some (leaf_of (ident r x))) (sym (name-later new names i s num.named later));
-    numbered = numbered-case old new s i num.grows;
-    closed = λ n low. ap (λ x. (x && true) && true) (number-below old new s i n num.grows low);
-    begins = Begins-number old new s i num;
-  }
-
-  -- any other leaf
-  pub member-leaf : {A : Type 0} (read : Data → Option A) (l : Leaf) (g : A → SpelledLabel) (k : Text) (d : Data) (x : A) (lab : Label) (a : List Text) → ((v : Data) → leaf_label l v ≡ option_map g (read v)) → IsPlain lab (g x) → option_and_then read (get k d) ≡ Some x → ReadsMember spans k (leaf l) d (leaf_tree lab) a a
-  member-leaf read l g k d x lab a agree plain h =
-      over (λ n. Some end) (λ n. needed (reading (whole_form spans) n (leaf l)) (get k d)) (depth d) lab (g x) end a a plain (λ n us low e. leaf-read read l g k d x agree h n low ∙ ap (λ cs. Some (record { label = g x; children = cs })) (cc)) (none-read (λ n. Some end) (depth d) a (λ n. refl))
-
   -- ---- members that are trees
 
   pub member-form : (k : Text) (f : Form) (d e : Data) (t : Tree) (a b : List Text) → get k d ≡ Some e → ReadsForm spans f e t a b → ReadsMember spans k f d t a b
@@ -132,22 +107,10 @@ module _ (spans : Bool) where
     begins = h.begins;
   })
 
-  -- a value that is no object
-  pub form-of-short : (m : Name) (d : Data) (t : Tree) (a b : List Text) → is_some (as_object d) ≡ false → IsReadAs (λ n. shorts_of m d) 0 t a b → ReadsForm spans (node m) d t a b
-  form-of-short m d t a b plain h = one-up spans (node m) d t a b (record {
-    spelled = λ n names low later. rw plain (h.spelled n names (omega arith) later);
-    numbered = h.numbered;
-    closed = h.closed;
-    begins = h.begins;
-  })
-
 -- ---- types and expressions
 
 abbrev pub plain_type : ℕ → Tree
 plain_type i = branch type_expression (leaf_tree (kind absent) ∷ leaf_tree (ident reference i) ∷ leaf_tree (kind absent) ∷ [])
-
-abbrev pub as_expression : Tree → Tree
-as_expression t = record { label = at expression_node 0 0; children = forest_of (t ∷ []) }
 
 pub plain-type : (d : Data) (s : Text) (i : ℕ) (old new : List Text) → name_of d ≡ Some s → IsNumbered old s i new → ReadsPlain d (plain_type i) old new
 plain-type d s i old new h num = record {
@@ -159,44 +122,7 @@ plain-type d s i old new h num = record {
   };
 }
 
-short-truth : (d : Data) (o : Option Bool) → as_bool d ≡ o → short_expression d ≡ (elim o as (λ _. Option Spelled) [
-  | Some b ↦ Some (labelled (at expression_node 0 0) (branch literal (leaf_of (truth b) ∷ []) ∷ []))
-  | None ↦ option_map (λ t. labelled (at expression_node 0 0) (branch type_or_identifier (t ∷ []) ∷ [])) (short_type d)
-])
-short-truth d o h = ap (λ x. elim x as (λ _. Option Spelled) [
-  | Some b ↦ Some (labelled (at expression_node 0 0) (branch literal (leaf_of (truth b) ∷ []) ∷ []))
-  | None ↦ option_map (λ t. labelled (at expression_node 0 0) (branch type_or_identifier (t ∷ []) ∷ [])) (short_type d)
-]) h
-
-bool-no-object : (d : Data) (b : Bool) → as_bool d ≡ Some b → is_some (as_object d) ≡ false
-bool-no-object null b h = cc
-bool-no-object (boolean c) b h = refl
-bool-no-object (number n) b h = cc
-bool-no-object (string s) b h = cc
-bool-no-object (array ds) b h = cc
-bool-no-object (object ms) b h = cc
-
 module _ (spans : Bool) where
-  pub truth-read : (d : Data) (b : Bool) (a : List Text) → as_bool d ≡ Some b → ReadsForm spans (node an_expression) d (as_expression (branch literal (leaf_tree (truth b) ∷ []))) a a
-  truth-read d b a h = form-of-short spans an_expression d _ a a (bool-no-object d b h) (record {
-    spelled = λ n names low later. short-truth d (Some b) h;
-    numbered = refl;
-    closed = λ n low. refl;
-    begins = Begins-same a;
-  })
-
-wrapped-plain : (o : Option Spelled) (u : Spelled) → o ≡ Some u → option_map (λ t. labelled (at expression_node 0 0) (branch type_or_identifier (t ∷ []) ∷ [])) o ≡ Some (labelled (at expression_node 0 0) (branch type_or_identifier (u ∷ []) ∷ []))
-wrapped-plain o u h = ap (option_map (λ t. labelled (at expression_node 0 0) (branch type_or_identifier (t ∷ []) ∷ []))) h
-
-module _ (spans : Bool) where
-  pub plain-expression : (d : Data) (i : ℕ) (a b : List Text) → as_bool d ≡ None → is_some (as_object d) ≡ false → ReadsPlain d (plain_type i) a b → ReadsForm spans (node an_expression) d (as_expression (branch type_or_identifier (plain_type i ∷ []))) a b
-  plain-expression d i a b no_truth no_object h = form-of-short spans an_expression d _ a b no_object (record {
-    spelled = λ n names low later. short-truth d None no_truth ∙ wrapped-plain (short_type d) _ (h.plain.spelled n names low later);
-    numbered = h.plain.numbered;
-    closed = λ n low. ap (λ x. (true && ((true && x) && true)) && true) (h.plain.closed n low);
-    begins = h.plain.begins;
-  })
-
   -- ---- lists and names by themselves
 
   pub list-there : (k : Text) (f : Form) (d e : Data) (t : Tree) (a b : List Text) → get k d ≡ Some e → ReadsForm spans f e t a b → ReadsList spans k f d t a b

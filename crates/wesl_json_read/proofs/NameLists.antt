@@ -14,7 +14,7 @@ use Rattle.wesl_json_form.specs.Nodes.{whole_form}
 use Rattle.wesl_json_form.specs.Reading.{texts_in, list_in, name_in, or_empty, reading}
 use Rattle.wesl_json_form.specs.Place.{IsBroken}
 use Rattle.wesl_json_form.specs.Pointer.{index, key, part_text}
-use Rattle.wesl_json_read.specs.Faults.{IsInside, IsUnderIndex, LocatesHere, Locates}
+use Rattle.wesl_json_read.specs.Faults.{IsInside, IsUnderPart, LocatesHere, Locates}
 use Rattle.wesl_json_read.specs.Numbers.{Reads, ReadsMany}
 use Rattle.wesl_json_read.specs.Noted.{IsList, IsNoList, IsTold, IsToldOrRefused, Notes, NotesMany, NotesNoList}
 use Rattle.wesl_json_read.specs.Texts.{NotesText}
@@ -51,7 +51,7 @@ names-whole {spans} d vs i xs names is all inside =
     leaf-reads (list_in name_in) some_names texts d (map string_bytes xs) (texts (map string_bytes xs)) names (λ v. refl) (plain-texts (map string_bytes xs)) found
 
 -- a name that is wrong
-pub name-under : (spans : Bool) (i : ℕ) (d v : Data) (inside outside : error.Error) → at i d ≡ Some v → LocatesHere (name_in v) inside → IsUnderIndex i inside outside → Locates spans (leaf some_names) d outside
+pub name-under : (spans : Bool) (i : ℕ) (d v : Data) (inside outside : error.Error) → at i d ≡ Some v → LocatesHere (name_in v) inside → IsUnderPart (index i) inside outside → Locates spans (leaf some_names) d outside
 name-under spans i d v inside outside found h u =
     further (index i) (λ place. (place ≡ []) × (name_in v ≡ None)) (IsBroken (whole_form spans) (leaf some_names) d) inside outside
     (λ place w. (index i ∷ [], ap (λ p. (47 ∷ part_text (index i)) ++ p) w.0, (v, found, ap (option_map text) w.1))) h u

@@ -13,7 +13,7 @@ use Rattle.wesl_json_form.specs.Keys.{has_only}
 use Rattle.wesl_json_form.specs.Place.{Field, field, fields, extra_fields, find_field, fields_of, member_form, IsWrongLeaf, IsWrongNode, IsWrongValue, IsWrongObject, BreaksAt, IsBroken}
 use Rattle.wesl_json_form.specs.Pointer.{Part, key, index, part_text, pointer_text}
 use Rattle.wesl_json_form.specs.Nodes.{whole_form, nodes_of}
-use Rattle.wesl_json_read.specs.Faults.{place_of, IfPlace, IsAtRoot, IsUnder, IsUnderIndex, LocatesHere, LocatesSpan, IsTextBroken, LocatesText, IsInside, LocatesInside, IsMemberBroken, LocatesMember, IsRowBroken, LocatesRow, Locates}
+use Rattle.wesl_json_read.specs.Faults.{place_of, IfPlace, IsAtRoot, IsUnder, IsUnderPart, LocatesHere, LocatesSpan, IsTextBroken, LocatesText, IsInside, LocatesInside, IsMemberBroken, LocatesMember, IsRowBroken, LocatesRow, Locates}
 
 -- an error that tells this place
 told : (P : Text → Type 0) (place : Text) (e : error.Error) → place_of e ≡ Some place → P place → IfPlace e P
@@ -64,7 +64,7 @@ module _ (spans : Bool) where
   member-inside k f d e h = IfPlace-more (IsInside spans k f d) (IsMemberBroken spans k f d) e (λ place w. inr w) h
 
   -- an item of a list
-  pub item-under : (kd : _) (m : Name) (i : ℕ) (d v : Data) (inside outside : error.Error) → at i d ≡ Some v → Locates spans (node m) v inside → IsUnderIndex i inside outside → Locates spans (list_of kd m) d outside
+  pub item-under : (kd : _) (m : Name) (i : ℕ) (d v : Data) (inside outside : error.Error) → at i d ≡ Some v → Locates spans (node m) v inside → IsUnderPart (index i) inside outside → Locates spans (list_of kd m) d outside
   item-under kd m i d v inside outside found h u =
       further (index i) (IsBroken (whole_form spans) (node m) v) (IsBroken (whole_form spans) (list_of kd m) d) inside outside (λ place w. (index i ∷ w.0, ap (λ p. (47 ∷ part_text (index i)) ++ p) w.1, (v, found, w.2))) h u
 

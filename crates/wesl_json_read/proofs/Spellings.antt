@@ -8,9 +8,6 @@ use Rattle.wesl_json_form.specs.Units.{AreDistinct}
 use Rattle.wesl_json_read.specs.Numbers.{IsNumbered}
 use Rattle.wesl_json_read.specs.Numbered.{AreNumbers}
 
-pub no_numbers : (at : Text → Option ℕ) → ((s : Text) → at s ≡ None) → AreNumbers [] at
-no_numbers at none s i = (λ h. (let e : None ≡ Some i = sym (none s) ∙ h in cc), λ h. cc)
-
 pub distinct_names : (names : List Text) (at : Text → Option ℕ) → AreNumbers names at → AreDistinct names
 distinct_names names at are i j s at_i at_j =
     let e : Some i ≡ Some j = sym ((are s i).1 at_i) ∙ (are s j).1 at_j in cc

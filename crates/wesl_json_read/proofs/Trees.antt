@@ -1,31 +1,20 @@
 -- The trees of the nodes that are made.
-use Rattle.std.proofs.Common.{◌≡◌, [], ◌∷◌, Option, Some, None, String, Vec, Global, string_bytes, refl, ap, ◌∙◌, rules}
+use Rattle.std.proofs.Common.{◌≡◌, [], ◌∷◌, Option, Some, None, String, Vec, Global, string_bytes, ap, ◌∙◌, rules}
 use mathlib.Core.List.{map-map}
 use Rattle.std.specs.Box.{box_value}
 use Rattle.std.specs.Global.{Box}
 use Rattle.wesl_tree_names.specs.declared.names.Ident.{Ident}
-use Rattle.wesl_tree_syntax.specs.Tree.{Tree, unary, binary, truth, text, leaf, forest_of, branch, ident, reference, literal, parenthesized, named_component, indexing, call_expression, call, type_or_identifier, type_expression, list, template_argument}
-use Rattle.wesl_tree_syntax.specs.View.{expression_tree, expression_view, call_view, type_view, argument_view, listed, optional, boxed_path, expression_step, call_step, argument_step, type_step}
+use Rattle.wesl_tree_syntax.specs.Tree.{unary, binary, truth, text, leaf, forest_of, branch, ident, reference, literal, parenthesized, named_component, indexing, call_expression, call, type_or_identifier, type_expression, list, template_argument}
+use Rattle.wesl_tree_syntax.specs.View.{expression_tree, expression_view, call_view, type_view, argument_view, listed, optional, boxed_path}
 use Rattle.wesl_tree_syntax.specs.declared.span.Spanned.{Spanned}
 use Rattle.wesl_tree_syntax.specs.declared.expression.UnaryOperator.{UnaryOperator}
 use Rattle.wesl_tree_syntax.specs.declared.expression.BinaryOperator.{BinaryOperator}
 use Rattle.wesl_tree_syntax.specs.declared.expression.Literal.TheVariants as literals
 use Rattle.wesl_tree_syntax.specs.declared.expression.Expression.{Expression, the_lemmas, Parenthesized, NamedComponent, Indexing, Unary, Binary, Literal, FunctionCall as Call, TypeOrIdentifier}
-use Rattle.wesl_tree_syntax.specs.declared.expression.Expression.TheFolds.{fold_out-FunctionCall, fold_out-TypeExpression}
-use Rattle.wesl_tree_syntax.specs.declared.expression.FunctionCall.{FunctionCall, out-FunctionCall, roll-FunctionCall}
+use Rattle.wesl_tree_syntax.specs.declared.expression.FunctionCall.{FunctionCall, roll-FunctionCall}
 use Rattle.wesl_tree_names.specs.declared.path.ModulePath.{ModulePath}
-use Rattle.wesl_tree_syntax.specs.declared.expression.TypeExpression.{TypeExpression, roll-TypeExpression, out-TypeExpression, map-TypeExpression}
+use Rattle.wesl_tree_syntax.specs.declared.expression.TypeExpression.{TypeExpression, roll-TypeExpression}
 use Rattle.wesl_tree_syntax.specs.declared.expression.TemplateArg.{TemplateArg, roll-TemplateArg}
-
-pub call-parts : (c : FunctionCall) → call_view c ≡ branch call (type_view (out-FunctionCall c).ty ∷ listed expression_tree list (out-FunctionCall c).arguments ∷ [])
-call-parts c = fold_out-FunctionCall Tree Tree Tree Tree expression_step call_step argument_step type_step c ∙ simp map-map
-
-mapped-type : (p : Option (Box ModulePath)) (i : Ident) (o : Option (Vec TemplateArg Global)) → type_step (map-TypeExpression Expression FunctionCall TemplateArg TypeExpression Tree Tree Tree Tree expression_view call_view argument_view type_view (record { path = p; ident = i; template_args = o })) ≡ branch type_expression (optional boxed_path p ∷ leaf (ident reference i.0) ∷ optional (listed argument_view list) o ∷ [])
-mapped-type p i None = refl
-mapped-type p i (Some v) = simp map-map
-
-pub type-parts : (t : TypeExpression) → type_view t ≡ branch type_expression (optional boxed_path (out-TypeExpression t).path ∷ leaf (ident reference (out-TypeExpression t).ident.0) ∷ optional (listed argument_view list) (out-TypeExpression t).template_args ∷ [])
-type-parts t = fold_out-TypeExpression Tree Tree Tree Tree expression_step call_step argument_step type_step t ∙ mapped-type (out-TypeExpression t).path (out-TypeExpression t).ident (out-TypeExpression t).template_args
 
 pub made_type : (p : Option (Box ModulePath)) (i : Ident) (args : Option (Vec TemplateArg Global)) → type_view (roll-TypeExpression (record { path = p; ident = i; template_args = args })) ≡ branch type_expression (optional boxed_path p ∷ leaf (ident reference i.0) ∷ optional (listed argument_view list) args ∷ [])
 made_type p i None = search (rules, the_lemmas)

@@ -12,7 +12,7 @@ use Rattle.wesl_json_form.specs.Schema.{Form, Leaf, leaf}
 use Rattle.wesl_json_form.specs.Nodes.{whole_form}
 use Rattle.wesl_json_form.specs.Place.{IsWrongLeaf}
 use Rattle.wesl_json_read.specs.Faults.{LocatesHere, LocatesInside}
-use Rattle.wesl_json_read.specs.Parts.{IsFaultUnder, IsThere}
+use Rattle.wesl_json_read.specs.Parts.{IsFaultUnder, IsWhatIsRead}
 use Rattle.wesl_json_read.specs.Numbers.{Reads, ReadsMay}
 use Rattle.wesl_json_read.proofs.Places.{leaf-under}
 use Rattle.wesl_json_read.proofs.Steps.{may-there}
@@ -27,6 +27,6 @@ module _ {A : Type 0} (k : Text) (d v : Data) (found : get k d ≡ Some v) (r : 
     plain : {x : A} → r ≡ Ok x → (spans : Bool) (names : List Text) → Reads spans f v (view x) names names
     plain is = IfOk-at_ok (λ y. (spans : Bool) (names : List Text) → Reads spans f v (view y) names names) is good
 
-    pub may-each : (s : Result (Option A) error.Error) → IfOk s (IsThere r) → IfOk s (λ o. (spans : Bool) (names : List Text) → ReadsMay spans k f d (option_view view o) names names)
+    pub may-each : (s : Result (Option A) error.Error) → IfOk s (IsWhatIsRead r) → IfOk s (λ o. (spans : Bool) (names : List Text) → ReadsMay spans k f d (option_view view o) names names)
     may-each s ok =
-        IfOk-weaker s (IsThere r) (λ o. (spans : Bool) (names : List Text) → ReadsMay spans k f d (option_view view o) names names) (λ o h spans names. subst (λ p. ReadsMay spans k f d (option_view view p) names names) (sym h.2) (may-there k f d v (view h.0) names names found (plain h.1 spans names))) ok
+        IfOk-weaker s (IsWhatIsRead r) (λ o. (spans : Bool) (names : List Text) → ReadsMay spans k f d (option_view view o) names names) (λ o h spans names. subst (λ p. ReadsMay spans k f d (option_view view p) names names) (sym h.2) (may-there k f d v (view h.0) names names found (plain h.1 spans names))) ok

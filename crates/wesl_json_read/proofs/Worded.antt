@@ -1,20 +1,19 @@
 -- What is read of an object with a word, and of a node with a span.
-use Rattle.std.proofs.Common.{◌≡◌, ℕ, Bool, List, true, Option, Some, None, option_map, option_and_then, codes, refl, sym, ap, ◌∙◌, subst}
+use Rattle.std.proofs.Common.{◌≡◌, ℕ, Bool, List, true, Option, Some, None, option_map, option_and_then, codes, refl, ap, ◌∙◌}
 use Rattle.std.specs.Option.{is_some}
-use Rattle.serde_json.specs.Data.{Data, Members}
+use Rattle.serde_json.specs.Data.{Data}
 use Rattle.serde_json.specs.Find.{get, as_object, as_str}
 use Rattle.wesl_tree_names.specs.Path.{Text}
 use Rattle.wesl_tree_names.specs.declared.errors.Error as error
 use Rattle.wesl_tree_syntax.specs.Tree.{Kind, Label, Tree, Forest, at, end, before}
 use Rattle.wesl_json_form.specs.Schema.{SpelledLabel, look, node, Name, Head, Row, nothing, inner, beside, a_span, placed, Node}
-use Rattle.wesl_json_form.specs.Nodes.{whole_form, nodes_of, shorts_of, by_word, NodeWords}
+use Rattle.wesl_json_form.specs.Nodes.{nodes_of, shorts_of, by_word, NodeWords}
 use Rattle.wesl_json_form.specs.Reading.{label_in, known_keys, span_in}
 use Rattle.wesl_json_form.specs.Keys.{has_only}
-use Rattle.wesl_json_form.specs.Place.{IsWrongNode, IsWrongValue}
 use Rattle.wesl_json_read.specs.Faults.{IsAtRoot, IsUnder, Locates, LocatesRow, LocatesSpan}
 use Rattle.wesl_json_read.specs.Forms.{HasWord, ReadsWorded, worded_node, worded_row}
 use Rattle.wesl_json_read.specs.Numbers.{Reads, ReadsRow, ReadsRows}
-use Rattle.wesl_json_read.proofs.Places.{node-row, root-value, span-place, unknown-word}
+use Rattle.wesl_json_read.proofs.Places.{node-row, span-place, unknown-word}
 use Rattle.wesl_json_read.proofs.Rows.{IsPlain, plain-at, row-marked, row-placed}
 use Rattle.wesl_json_read.proofs.Members.{form-of-node, node-of-row, word-label}
 use Rattle.wesl_json_read.proofs.Steps.{inner-then, none-then, word-object}
@@ -41,18 +40,8 @@ module _ (spans : Bool) where
     pub node-span : (e : error.Error) → LocatesSpan spans d e → Locates spans (node m) d e
     node-span e bad = span-place spans m (worded_node spans outer w h row) _ d e is refl bad
 
-  -- no word, or one that names no node
+  -- a word that names no node
   module _ (m : Name) (words : NodeWords) (d : Data) (by : nodes_of spans m d ≡ by_word words None d) (short : shorts_of m d ≡ None) where
-    none-by : get (codes "k") d ≡ None → nodes_of spans m d ≡ None
-    none-by none = by ∙ ap (λ o. elim o as (λ _. Option Node) [ None ↦ None | Some v ↦ option_and_then (look words) (as_str v) ]) none
-
-    wrong-case : (o : Option Members) → get (codes "k") d ≡ None → IsWrongValue (whole_form spans) m d o
-    wrong-case None none = short
-    wrong-case (Some ms) none = subst (λ n. IsWrongNode (whole_form spans) n d) (sym (none-by none)) none
-
-    pub no-word : (e : error.Error) → get (codes "k") d ≡ None → IsAtRoot e → Locates spans (node m) d e
-    no-word e none is = root-value spans m d e (wrong-case (as_object d) none) is
-
     pub wrong-word : (v : Data) (inside outside : error.Error) → get (codes "k") d ≡ Some v → option_and_then (look words) (as_str v) ≡ None → IsAtRoot inside → IsUnder (codes "k") inside outside → Locates spans (node m) d outside
     wrong-word v inside outside found none is u =
         let unknown : nodes_of spans m d ≡ None = by ∙ ap (λ o. elim o as (λ _. Option Node) [ None ↦ None | Some x ↦ option_and_then (look words) (as_str x) ]) found ∙ none in

@@ -19,10 +19,11 @@ use Rattle.wesl_json_read.specs.declared.words.PlainWord.TheVariants as plains
 use Rattle.wesl_json_read.specs.declared.words.AttributeWord.{AttributeWord}
 use Rattle.wesl_json_read.specs.declared.words.AttributeWord.TheVariants as attribs
 
--- the object has this word
+-- the object has this word at `k`
 abbrev pub HasWord : Text → Data → Type 0
 HasWord w d = option_and_then as_str (get (codes "k") d) ≡ Some w
 
+-- the word at `k` of each kind of expression, those of truth values in form 2 alone; a type or an identifier has none
 abbrev pub expression_text : ExpressionWord → Text
 expression_text words.Literal = codes "lit"
 expression_text (words.Truth true) = codes "true"
@@ -34,6 +35,7 @@ expression_text words.Unary = codes "unary"
 expression_text words.Binary = codes "binary"
 expression_text words.FunctionCall = codes "call"
 
+-- the label of its node: a kind, and of an operation the operator whose word stands at `op`
 abbrev pub expression_head : ExpressionWord → Head
 expression_head words.Literal = fixed (kind literal)
 expression_head (words.Truth b) = fixed (kind literal)
@@ -44,6 +46,7 @@ expression_head words.Unary = chosen (codes "op") unary_words
 expression_head words.Binary = chosen (codes "op") binary_words
 expression_head words.FunctionCall = fixed (kind call_expression)
 
+-- its members besides `k`, `op` and `span`, in document order; a truth value has none, its word says which it is
 abbrev pub expression_row : ExpressionWord → Row
 expression_row words.Literal = needs (codes "text") (leaf a_literal) nothing
 expression_row (words.Truth b) = given (truth b) nothing
@@ -56,6 +59,7 @@ expression_row words.FunctionCall = inner (fixed (kind call)) call_row nothing
 
 -- ---- attributes
 
+-- the words of the attributes that have one operand, an expression
 abbrev pub operand_text : OperandWord → Text
 operand_text operands.Align = codes "align"
 operand_text operands.Binding = codes "binding"
@@ -67,6 +71,7 @@ operand_text operands.Size = codes "size"
 operand_text operands.If = codes "if"
 operand_text operands.Elif = codes "elif"
 
+-- the kinds of their nodes
 abbrev pub operand_kind : OperandWord → Kind
 operand_kind operands.Align = align
 operand_kind operands.Binding = binding
@@ -78,6 +83,7 @@ operand_kind operands.Size = size
 operand_kind operands.If = if_attribute
 operand_kind operands.Elif = elif_attribute
 
+-- the words of the attributes without operand, which stand alone or, in form 2, at `k` of an object
 abbrev pub plain_text : PlainWord → Text
 plain_text plains.Const = codes "const"
 plain_text plains.Invariant = codes "invariant"
@@ -88,6 +94,7 @@ plain_text plains.Compute = codes "compute"
 plain_text plains.Publish = codes "publish"
 plain_text plains.Else = codes "else"
 
+-- the kinds of their nodes
 abbrev pub plain_kind : PlainWord → Kind
 plain_kind plains.Const = const_attribute
 plain_kind plains.Invariant = invariant_attribute
@@ -98,6 +105,7 @@ plain_kind plains.Compute = compute
 plain_kind plains.Publish = publish
 plain_kind plains.Else = else_attribute
 
+-- the word of each attribute, at `k` where it is an object
 abbrev pub attribute_text : AttributeWord → Text
 attribute_text (attribs.Operand w) = operand_text w
 attribute_text attribs.WorkgroupSize = codes "workgroup_size"
@@ -107,6 +115,7 @@ attribute_text attribs.Diagnostic = codes "diagnostic"
 attribute_text attribs.Custom = codes "custom"
 attribute_text (attribs.Plain w) = plain_text w
 
+-- the kind of its node
 abbrev pub attribute_kind : AttributeWord → Kind
 attribute_kind (attribs.Operand w) = operand_kind w
 attribute_kind attribs.WorkgroupSize = workgroup_size
@@ -116,6 +125,7 @@ attribute_kind attribs.Diagnostic = diagnostic
 attribute_kind attribs.Custom = custom
 attribute_kind (attribs.Plain w) = plain_kind w
 
+-- its members besides `k` and `span`, in document order; an attribute without operand has none
 abbrev pub attribute_row : AttributeWord → Row
 attribute_row (attribs.Operand w) = one_expression (codes "expr")
 attribute_row attribs.WorkgroupSize = needs (codes "x") expression (may (codes "y") expression (may (codes "z") expression nothing))
@@ -127,6 +137,7 @@ attribute_row (attribs.Plain w) = nothing
 
 -- ---- lists
 
+-- the forms of lists: of attributes, of expressions, of template arguments
 abbrev pub some_attributes : Form
 some_attributes = list_of attributes an_attribute
 
@@ -136,7 +147,7 @@ some_expressions = list_of list an_expression
 abbrev pub some_arguments : Form
 some_arguments = list_of list a_template_argument
 
--- what the word at k says, of these
+-- the label that the text at k stands for in the table of words; none where it is no such word, or is not there
 abbrev pub word_at : Words → Text → Data → Option SpelledLabel
 word_at words k d = option_and_then (word_in words) (get k d)
 
@@ -157,48 +168,49 @@ module _ (spans : Bool) where
     pub inside : ReadsRows spans (inner h row nothing) d (before t end) old new
 
   -- an object has only the members of a type, which is read as the tree
-  pub record ReadsBare (d : Data) (t : Tree) (old new : List Text) : Type 0 where
+  pub record ReadsTypeOrIdentifier (d : Data) (t : Tree) (old new : List Text) : Type 0 where
     pub known : has_only (known_keys (type_or_identifier_node spans).row d) d ≡ true
     pub inside : ReadsRows spans (inner (fixed (kind type_or_identifier)) (inner (fixed (kind type_expression)) type_row nothing) nothing) d (before t end) old new
 
+  -- the node that an object with this word of an expression is
   abbrev pub expression_of : ExpressionWord → Node
   expression_of w = worded_node expression_node (expression_text w) (expression_head w) (expression_row w)
 
+  -- an object has only the members of an expression with this word, and is read as the tree, but for its span
   abbrev pub ReadsExpression : ExpressionWord → Data → Tree → List Text → List Text → Type 0
   ReadsExpression w = ReadsWorded (expression_text w) (expression_head w) (expression_row w)
-
-  abbrev pub expression_worded : ExpressionWord → Row
-  expression_worded w = worded_row (expression_text w) (expression_head w) (expression_row w)
 
   -- an object has this word, which names its node, or it has none
   abbrev pub HasExpressionWord : Option ExpressionWord → Data → Type 0
   HasExpressionWord None d = get (codes "k") d ≡ None
   HasExpressionWord (Some w) d = HasWord (expression_text w) d × (nodes_of spans an_expression d ≡ Some (expression_of w))
 
-  -- the same of an object with a word, and of one without, which is a type or an identifier
+  -- an object with a word is read as the expression, and one without as a type or an identifier, but for its span
   abbrev pub ReadsExpressionOf : Option ExpressionWord → Data → Tree → List Text → List Text → Type 0
-  ReadsExpressionOf None = ReadsBare
+  ReadsExpressionOf None = ReadsTypeOrIdentifier
   ReadsExpressionOf (Some w) = ReadsExpression w
 
+  -- the members that it may have: those of its word, or those of a type or an identifier
   abbrev pub row_of_expression : Option ExpressionWord → Row
   row_of_expression None = (type_or_identifier_node spans).row
-  row_of_expression (Some w) = expression_worded w
+  row_of_expression (Some w) = (expression_of w).row
 
+  -- the node that an object with this word of an attribute is
   abbrev pub attribute_of : AttributeWord → Node
   attribute_of w = worded_node attribute_node (attribute_text w) (fixed (kind (attribute_kind w))) (attribute_row w)
 
+  -- an object has only the members of an attribute with this word, and is read as the tree, but for its span
   abbrev pub ReadsAttribute : AttributeWord → Data → Tree → List Text → List Text → Type 0
   ReadsAttribute w = ReadsWorded (attribute_text w) (fixed (kind (attribute_kind w))) (attribute_row w)
 
-  abbrev pub attribute_worded : AttributeWord → Row
-  attribute_worded w = worded_row (attribute_text w) (fixed (kind (attribute_kind w))) (attribute_row w)
-
+  -- an object has this word, which names its node; that of an attribute without operand does so in form 2 alone
   abbrev pub HasAttributeWord : AttributeWord → Data → Type 0
   HasAttributeWord w d = HasWord (attribute_text w) d × (nodes_of spans an_attribute d ≡ Some (attribute_of w))
 
-  -- the nodes that the text of a value names, as the word of an expression and as that of an attribute
+  -- the node that a value names as the word of an expression; none where it is no such word
   abbrev pub expression_named : Data → Option Node
   expression_named d = option_and_then (look (all_expression_words spans)) (as_str d)
 
+  -- the node that a value names as the word of an attribute; none where it is no such word
   abbrev pub attribute_named : Data → Option Node
   attribute_named d = option_and_then (look (all_attribute_words spans)) (as_str d)

@@ -14,10 +14,11 @@ use Rattle.wesl_json_form.specs.View.{borrowed_view}
 use Rattle.wesl_json_form.specs.declared.value.BorrowedValue.{BorrowedValue}
 use Rattle.wesl_json_read.specs.Numbers.{ReadsMay}
 
--- the trees of an attribute, and of an expression in a box
+-- the tree of an attribute, with its span
 abbrev pub placed_attribute : Spanned Attribute → Tree
 placed_attribute = placed attribute_view attribute_node
 
+-- the tree of an expression in a box
 abbrev pub boxed_expression : Box (Spanned Expression) → Tree
 boxed_expression b = expression_tree (box_value b)
 

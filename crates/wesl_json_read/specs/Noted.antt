@@ -24,7 +24,8 @@ abbrev pub as_error : Fault → error.Error
 as_error faults.Memory = error.Memory
 as_error (faults.Place s) = error.BadTree s
 
--- A part is read: unless a fault is noted by then, it stands for the value. The first fault is one of the value, and it is kept.
+-- A part is read: unless a fault is noted by then, it stands for the value.
+-- The first fault is one of the value, and it is kept.
 pub record Notes (Stands : Bool → List Text → List Text → Type 0) (Tells : Bool → error.Error → Type 0) (old new : Reader) : Type 0 where
   pub read : new.fault ≡ None → Stands old.spans old.numbering new.numbering
   pub first : old.fault ≡ None → IfSome new.fault (λ e. Tells old.spans (as_error e))
@@ -35,16 +36,19 @@ pub record Notes (Stands : Bool → List Text → List Text → Type 0) (Tells :
 abbrev pub Never : Bool → List Text → List Text → Type 0
 Never spans old new = ⊥
 
--- a value, a member that must be there, one that may be there, and a list are read as the tree
+-- a value is read as the tree, or its fault is noted: a place at which it breaks the form, or that memory was refused
 abbrev pub NotesForm : Form → Data → Tree → Reader → Reader → Type 0
 NotesForm f d t = Notes (λ spans. Reads spans f d t) (λ spans. Locates spans f d)
 
+-- the member k is read so; that it is not there is a fault of the object
 abbrev pub NotesNeeded : Text → Form → Data → Tree → Reader → Reader → Type 0
 NotesNeeded k f d t = Notes (λ spans. ReadsNeeded spans k f d t) (λ spans. LocatesMember spans k f d)
 
+-- the member k is read so, as the tree of an option, which is absent where the member is not there
 abbrev pub NotesMay : Text → Form → Data → Tree → Reader → Reader → Type 0
 NotesMay k f d t = Notes (λ spans. ReadsMay spans k f d t) (λ spans. LocatesInside spans k f d)
 
+-- the list at k is read so, as an empty one where it is not there
 abbrev pub NotesMany : Text → Form → Data → Tree → Reader → Reader → Type 0
 NotesMany k f d t = Notes (λ spans. ReadsMany spans k f d t) (λ spans. LocatesInside spans k f d)
 
@@ -52,7 +56,7 @@ NotesMany k f d t = Notes (λ spans. ReadsMany spans k f d t) (λ spans. Locates
 abbrev pub NotesIdent : Role → Text → Data → Ident → Reader → Reader → Type 0
 NotesIdent role k d i = NotesNeeded k (leaf (an_ident role)) d (ident_tree role i)
 
--- the object has no keys but these, and `span` where it takes one
+-- the value is an object that has no key but these, and `span` where it takes one, or it is noted to be wrong
 abbrev pub NotesKeys : Bool → List Text → Data → Reader → Reader → Type 0
 NotesKeys takes_span ks d =
     Notes (λ _ old new. (new ≡ old) × HasKeys takes_span ks d)
@@ -77,7 +81,7 @@ pub record IsThere (old : Reader) (k : Text) (d v : Data) : Type 0 where
   pub found : get k d ≡ Some v
   pub clear : old.fault ≡ None
 
--- the member k lacks, which is a fault of the object
+-- the member k is not there, which is a fault of the object
 abbrev pub Lacks : Text → Data → error.Error → Type 0
 Lacks k d e = IsAtRoot e × (get k d ≡ None)
 
@@ -90,6 +94,7 @@ pub record IsList (old : Reader) (k : Text) (d : Data) (items : Items) : Type 0 
 abbrev pub IsNoList : Text → Data → Text → Type 0
 IsNoList k d place = (v : Data) × (get k d ≡ Some v) × (as_array v ≡ None) × (place ≡ pointer_text (key k ∷ []))
 
+-- memory was refused, or the error tells that what stands at k is no list
 abbrev pub LocatesNoList : Text → Data → error.Error → Type 0
 LocatesNoList k d e = IfPlace e (IsNoList k d)
 
@@ -97,7 +102,7 @@ LocatesNoList k d e = IfPlace e (IsNoList k d)
 abbrev pub NotesNoList : Text → Data → Reader → Reader → Type 0
 NotesNoList k d = Notes (λ _ old new. (new ≡ old) × (get k d ≡ None)) (λ _. LocatesNoList k d)
 
--- the object has this span
+-- the object has this span: [0,0] where it has none, and where spans are not read
 abbrev pub NotesSpan : Data → ℕ → ℕ → Reader → Reader → Type 0
 NotesSpan d start end = Notes (λ spans old new. (new ≡ old) × (span_in spans d ≡ Some (start, end))) (λ spans. LocatesSpan spans d)
 

@@ -22,7 +22,8 @@ pub record IsNumbered (old : List Text) (name : Text) (i : ℕ) (new : List Text
   pub named : slice_get new i ≡ Some name
   pub grows : (new ≡ old) × (i < length old) ⊎ (new ≡ old ++ name ∷ []) × (i ≡ length old)
 
--- The tree's spelling, with its spans, is the reading, at each number of levels from `least` on, under the new table and each that it begins.
+-- The tree's spelling, with its spans, is the reading, at each number of levels from `least` on, under the new table
+-- and each that it begins.
 -- The tree's numbers come in order, and each has a name in the new table.
 pub record IsReadAs (read : ℕ → Option Spelled) (least : ℕ) (t : Tree) (old new : List Text) : Type 0 where
   pub spelled : (n : ℕ) (names : List Text) → least ≤ n → Begins new names → read n ≡ Some (shown true (name_in names) t)
@@ -37,7 +38,7 @@ pub record AreReadAs (read : ℕ → Option SpelledForest) (least : ℕ) (ts : F
   pub closed : (n : ℕ) → length new ≤ n → forest_below n ts ≡ true
   pub begins : Begins old new
 
--- a value that is no object is read as a type by its name alone
+-- a nonempty text is read as a type by this name alone
 pub record ReadsPlain (d : Data) (t : Tree) (old new : List Text) : Type 0 where
   pub plain : IsReadAs (λ n. short_type d) 0 t old new
 
@@ -46,13 +47,15 @@ module _ (spans : Bool) where
   abbrev pub ReadsForm : Form → Data → Tree → List Text → List Text → Type 0
   ReadsForm f d = IsReadAs (λ n. reading (whole_form spans) n f d) (suc (depth d))
 
-  -- a member that must be there, one that may be there, and a list
+  -- the member k, which must be there, is read as the tree
   abbrev pub ReadsMember : Text → Form → Data → Tree → List Text → List Text → Type 0
   ReadsMember k f d = IsReadAs (λ n. needed (reading (whole_form spans) n f) (get k d)) (depth d)
 
+  -- the member k is read as the tree of an option, an absent one where it is not there
   abbrev pub ReadsOptional : Text → Form → Data → Tree → List Text → List Text → Type 0
   ReadsOptional k f d = IsReadAs (λ n. optional (reading (whole_form spans) n f) (get k d)) (depth d)
 
+  -- the list at k is read as the tree, an empty one where it is not there
   abbrev pub ReadsList : Text → Form → Data → Tree → List Text → List Text → Type 0
   ReadsList k f d = IsReadAs (λ n. or_empty (empty_of f) (reading (whole_form spans) n f) (get k d)) (depth d)
 
@@ -69,18 +72,23 @@ module _ (spans : Bool) where
 
   -- ---- the same, each under a name of its own
 
+  -- a value is read as the tree, as `ReadsForm` says
   pub record Reads (f : Form) (d : Data) (t : Tree) (old new : List Text) : Type 0 where
     pub form : ReadsForm f d t old new
 
+  -- a member that must be there is read as the tree, as `ReadsMember` says
   pub record ReadsNeeded (k : Text) (f : Form) (d : Data) (t : Tree) (old new : List Text) : Type 0 where
     pub member : ReadsMember k f d t old new
 
+  -- a member that may be there is read as the tree, as `ReadsOptional` says
   pub record ReadsMay (k : Text) (f : Form) (d : Data) (t : Tree) (old new : List Text) : Type 0 where
     pub member : ReadsOptional k f d t old new
 
+  -- a list is read as the tree, as `ReadsList` says
   pub record ReadsMany (k : Text) (f : Form) (d : Data) (t : Tree) (old new : List Text) : Type 0 where
     pub member : ReadsList k f d t old new
 
+  -- the members of an object are read as the children, as `ReadsRow` says
   pub record ReadsRows (row : Row) (d : Data) (ts : Forest) (old new : List Text) : Type 0 where
     pub row_is : ReadsRow row d ts old new
 

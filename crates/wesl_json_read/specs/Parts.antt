@@ -12,6 +12,6 @@ IsMemoryOr read e = (e ≡ error.Memory) ⊎ (read ≡ Err e)
 abbrev pub IsFaultUnder : {A : Type 0} → Text → Result A error.Error → error.Error → Type 0
 IsFaultUnder k read e = (inner : error.Error) × (read ≡ Err inner) × IsUnder k inner e
 
--- what is read, as what is there
-abbrev pub IsThere : {A : Type 0} → Result A error.Error → Option A → Type 0
-IsThere {A} read o = (x : A) × (read ≡ Ok x) × (o ≡ Some x)
+-- the option is what is read, and there is no fault
+abbrev pub IsWhatIsRead : {A : Type 0} → Result A error.Error → Option A → Type 0
+IsWhatIsRead {A} read o = (x : A) × (read ≡ Ok x) × (o ≡ Some x)

@@ -12,11 +12,13 @@ use Rattle.wesl_json_read.specs.declared.leaves.TextKind.{TextKind}
 use Rattle.wesl_json_read.specs.declared.leaves.TextKind.TheVariants as kinds
 use Rattle.wesl_json_read.specs.declared.reader.Reader.{Reader}
 
+-- what the form asks for where a text of this kind stands
 abbrev pub text_leaf : TextKind → Leaf
 text_leaf kinds.Name = a_name
 text_leaf kinds.Literal = a_literal
 text_leaf kinds.Any = a_text
 
+-- the text that a value is, of this kind: a name is not empty, a literal neither empty nor `true` nor `false`
 abbrev pub text_read : TextKind → Data → Option Text
 text_read kinds.Name d = name_in d
 text_read kinds.Literal d = literal_in d

@@ -11,7 +11,7 @@ ghost use Rattle.wesl_tree_syntax.specs.View.{path_tree};
 ghost use Rattle.wesl_json_read.specs.Gives.{GivesIfAlways};
 ghost use Rattle.wesl_json_read.specs.Numbers.{IsNameNumbered};
 ghost use Rattle.wesl_json_read.specs.Faults.{IsAtRoot, IsUnder, LocatesHere, LocatesInsideAlways, LocatesSpan};
-ghost use Rattle.wesl_json_read.specs.Parts.{IsFaultUnder, IsThere};
+ghost use Rattle.wesl_json_read.specs.Parts.{IsFaultUnder, IsWhatIsRead};
 
 use crate::numbering::Numbering;
 use std::alloc::Global;
@@ -150,7 +150,7 @@ fn inside_option<T: Drop>(
     key: &str,
     read: Result<T, Error>,
 ) -> Result<Option<T>, Error>
-    ensures ok { IfOk result (IsThere read) }
+    ensures ok { IfOk result (IsWhatIsRead read) }
     ensures place { IfErr result (IsFaultUnder key.now read) }
 {
     match read {

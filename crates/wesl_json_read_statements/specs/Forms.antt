@@ -22,6 +22,7 @@ use Rattle.wesl_json_read_statements.specs.declared.words.JumpWord.TheVariants a
 
 -- ---- lists
 
+-- the forms of lists: of statements, of the cases of a clause, of `else if` branches, of the clauses of a `switch`
 abbrev pub some_statements : Form
 some_statements = list_of statements a_statement
 
@@ -36,28 +37,33 @@ some_clauses = list_of clauses a_clause
 
 -- ---- what stands in modules and in functions
 
+-- the words of the declarations of values: of `const`, `override` and `let`
 abbrev pub value_text : ValueWord → Text
 value_text values.Const = codes "const"
 value_text values.Override = codes "override"
 value_text values.Let = codes "let"
 
+-- the kinds of these declarations
 abbrev pub value_kind : ValueWord → Kind
 value_kind values.Const = const_kind
 value_kind values.Override = override_kind
 value_kind values.Let = let_kind
 
+-- the words of what may stand in modules and in functions: declarations, assertions and voids
 abbrev pub declared_text : DeclaredWord → Text
 declared_text (declareds.Value w) = value_text w
 declared_text declareds.Var = codes "var"
 declared_text declareds.Assert = codes "assert"
 declared_text declareds.Void = codes "void"
 
+-- the kinds of their nodes
 abbrev pub declared_kind : DeclaredWord → Kind
 declared_kind (declareds.Value w) = declaration
 declared_kind declareds.Var = declaration
 declared_kind declareds.Assert = const_assert
 declared_kind declareds.Void = void
 
+-- their members besides `k` and `span`, in document order; only a variable has `space` and `access`, a void has none
 abbrev pub declared_row : DeclaredWord → Row
 declared_row (declareds.Value w) = declared (value_kind w) nothing
 declared_row declareds.Var = declared var_kind space_row
@@ -65,17 +71,21 @@ declared_row declareds.Assert = attrs operand
 declared_row declareds.Void = nothing
 
 module _ (spans : Bool) where
+  -- the node that an object with this word is, as a global declaration or as a statement: the outer kind says which
   abbrev pub declared_of : Kind → DeclaredWord → Node
   declared_of outer w = worded_node spans outer (declared_text w) (fixed (kind (declared_kind w))) (declared_row w)
 
+  -- an object has only the members of this word, and is read as the tree, but for its span
   abbrev pub ReadsDeclared : DeclaredWord → Data → Tree → List Text → List Text → Type 0
   ReadsDeclared w = ReadsWorded spans (declared_text w) (fixed (kind (declared_kind w))) (declared_row w)
 
+  -- the members of an object with this word: `k`, `span` where spans are read, and its own
   abbrev pub declared_worded : DeclaredWord → Row
   declared_worded w = worded_row spans (declared_text w) (fixed (kind (declared_kind w))) (declared_row w)
 
 -- ---- statements
 
+-- the word at `k` of each kind of statement
 abbrev pub statement_text : StatementWord → Text
 statement_text stated.Block = codes "block"
 statement_text stated.Assign = codes "assign"
@@ -93,6 +103,7 @@ statement_text stated.Return = codes "return"
 statement_text stated.Call = codes "call"
 statement_text (stated.Declared w) = declared_text w
 
+-- the label of its node: a kind, and of an assignment the operator whose word stands at `op`
 abbrev pub statement_head : StatementWord → Head
 statement_head stated.Block = fixed (kind compound_statement)
 statement_head stated.Assign = chosen (codes "op") assignment_words
@@ -110,6 +121,7 @@ statement_head stated.Return = fixed (kind return)
 statement_head stated.Call = fixed (kind call_statement)
 statement_head (stated.Declared w) = fixed (kind (declared_kind w))
 
+-- its members besides `k`, `op` and `span`, in document order
 abbrev pub statement_row : StatementWord → Row
 statement_row stated.Block = inner (fixed (kind compound)) body_row nothing
 statement_row stated.Assign = attrs (needs (codes "lhs") expression (one_expression (codes "rhs")))
@@ -128,20 +140,24 @@ statement_row stated.Call = attrs (needs (codes "call") (node a_call) nothing)
 statement_row (stated.Declared w) = declared_row w
 
 module _ (spans : Bool) where
+  -- the node that an object with this word of a statement is
   abbrev pub statement_of : StatementWord → Node
   statement_of w = worded_node spans statement_node (statement_text w) (statement_head w) (statement_row w)
 
+  -- an object has only the members of a statement with this word, and is read as the tree, but for its span
   abbrev pub ReadsStatement : StatementWord → Data → Tree → List Text → List Text → Type 0
   ReadsStatement w = ReadsWorded spans (statement_text w) (statement_head w) (statement_row w)
 
+  -- the members of a statement with this word: `k`, `span` where spans are read, and its own
   abbrev pub statement_worded : StatementWord → Row
   statement_worded w = worded_row spans (statement_text w) (statement_head w) (statement_row w)
 
--- the words of statements with attributes and an operand, and of those with attributes alone
+-- the words of `++` and `--`, which have attributes and an operand
 abbrev pub step_word : StepWord → StatementWord
 step_word steps.Increment = stated.Increment
 step_word steps.Decrement = stated.Decrement
 
+-- the words of the statements that have attributes alone: `break`, `continue` and `discard`
 abbrev pub jump_word : JumpWord → StatementWord
 jump_word jumps.Break = stated.Break
 jump_word jumps.Continue = stated.Continue

@@ -14,14 +14,15 @@ use Rattle.wesl_json_read_statements.specs.Forms.{ReadsDeclared, ReadsStatement,
 use Rattle.wesl_json_read_statements.specs.declared.words.DeclaredWord.{DeclaredWord}
 use Rattle.wesl_json_read_statements.specs.declared.words.StatementWord.{StatementWord}
 
--- an object with this word is read as the tree, but for its span
+-- an object with this word of a declaration, an assertion or a void is read as the tree, but for its span
 abbrev pub NotesDeclared : DeclaredWord → Data → Tree → Reader → Reader → Type 0
 NotesDeclared w d t = Notes (λ spans. ReadsDeclared spans w d t) (λ spans. LocatesRow spans (declared_worded spans w) d)
 
+-- an object with this word of a statement is read as the tree, but for its span
 abbrev pub NotesStatement : StatementWord → Data → Tree → Reader → Reader → Type 0
 NotesStatement w d t = Notes (λ spans. ReadsStatement spans w d t) (λ spans. LocatesRow spans (statement_worded spans w) d)
 
--- the object has this word
+-- an object has this word of a statement; that it has none, or another value at `k`, is noted
 abbrev pub NotesStatementWord : Data → StatementWord → Reader → Reader → Type 0
 NotesStatementWord d w = Notes (λ _ old new. (new ≡ old) × HasWord (statement_text w) d) (λ spans. Locates spans (node a_statement) d)
 

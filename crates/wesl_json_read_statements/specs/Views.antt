@@ -9,14 +9,16 @@ use Rattle.wesl_tree_syntax.specs.declared.span.Spanned.{Spanned}
 use Rattle.wesl_json_read_statements.specs.declared.declared.Declared.{Declared}
 use Rattle.wesl_json_read_statements.specs.declared.declared.Declared.TheVariants as kinds
 
+-- the tree of a void, of a declaration of a value or a variable, and of an assertion
 abbrev pub declared_view : Declared → Tree
 declared_view kinds.Void = branch void []
 declared_view (kinds.Declaration d) = declaration_view d
 declared_view (kinds.Assert c) = assert_view c
 
--- the trees of statements, and of one in a box
+-- the tree of a list of statements
 abbrev pub statements_tree : Vec (Spanned Statement) Global → Tree
 statements_tree = listed statement_tree statements
 
+-- the tree of a statement in a box
 abbrev pub boxed_statement : Box (Spanned Statement) → Tree
 boxed_statement b = statement_tree (box_value b)

@@ -6,7 +6,7 @@ use Rattle.serde_json.specs.Find.{get}
 use Rattle.wesl_tree_names.specs.Path.{Text}
 use Rattle.wesl_tree_names.specs.declared.errors.Error as error
 use Rattle.wesl_tree_syntax.specs.Tree.{Kind, Tree, Forest, kind, at, before, end}
-use Rattle.wesl_json_form.specs.Schema.{Form, Name, Row, fixed, list_of, needs, node, spanned}
+use Rattle.wesl_json_form.specs.Schema.{Form, Name, Row, a_span, beside, fixed, inner, list_of, needs, node, nothing, spanned}
 use Rattle.wesl_json_form.specs.Nodes.{nodes_of, shorts_of, whole_form}
 use Rattle.wesl_json_form.specs.Reading.{empty_of, known_keys, needed, or_empty, reading, span_in}
 use Rattle.wesl_json_form.specs.Keys.{has_only, keys_beside}
@@ -20,7 +20,16 @@ use Rattle.wesl_json_read.proofs.Places.{keys-place, look_field, node-row, row-i
 use Rattle.wesl_json_read.proofs.Rows.{plain-kind}
 use Rattle.wesl_json_read.proofs.Steps.{inner-then, known-object, needs-then, none-then}
 use Rattle.wesl_json_read.proofs.Worded.{placed-reads}
-use Rattle.wesl_json_read_unit.specs.Forms.{ReadsSpanned, spanned_row}
+
+module _ (spans : Bool) (k : Kind) (row : Row) where
+  -- the row of an object without a word, in a node that has a span: a span where spans are read, and the members of the node in it
+  abbrev pub spanned_row : Row
+  spanned_row = beside spans a_span (inner (fixed (kind k)) row nothing)
+
+  -- an object has only these members, and they are read as the tree
+  pub record ReadsSpanned (d : Data) (t : Tree) (old new : List Text) : Type 0 where
+    pub known : has_only (known_keys spanned_row d) d ≡ true
+    pub inside : ReadsRows spans (inner (fixed (kind k)) row nothing) d (before t end) old new
 
 module _ (spans : Bool) (m : Name) (outer k : Kind) (row : Row) (d : Data) (is : nodes_of spans m d ≡ Some (spanned spans outer (fixed (kind k)) row)) where
   pub spanned-reads : (ts : Forest) (a b : List Text) → has_only (known_keys (spanned_row spans k row) d) d ≡ true → ReadsRows spans row d ts a b → ReadsSpanned spans k row d (record { label = kind k; children = ts }) a b

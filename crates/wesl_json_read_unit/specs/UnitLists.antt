@@ -11,6 +11,8 @@ use Rattle.wesl_tree_syntax.specs.declared.import.ImportStatement.{ImportStateme
 use Rattle.wesl_tree_syntax.specs.declared.span.Spanned.{Spanned}
 use Rattle.wesl_json_form.specs.Schema.{Form, a_declaration, a_directive, a_member, a_parameter, an_entry, an_import, list_of}
 
+-- the forms of lists: of imports, of the entries of an import's list, of directives, of global declarations,
+-- of the members of a struct, of parameters
 abbrev pub some_imports : Form
 some_imports = list_of imports an_import
 
@@ -29,6 +31,7 @@ some_members = list_of members a_member
 abbrev pub some_parameters : Form
 some_parameters = list_of parameters a_parameter
 
+-- the trees of an import, of a directive, of a global declaration and of a member of a struct, each with its span
 abbrev pub import_tree : Spanned ImportStatement → Tree
 import_tree = placed import_view import_node
 
@@ -41,6 +44,7 @@ global_tree = placed global_view declaration_node
 abbrev pub member_tree : Spanned StructMember → Tree
 member_tree = placed member_view member_node
 
+-- the trees of lists: of the members of a struct, and of the parameters of a function, which have no spans
 abbrev pub members_tree : Vec (Spanned StructMember) Global → Tree
 members_tree = listed member_tree members
 

@@ -9,23 +9,25 @@ use Rattle.wesl_json_form.specs.Schema.{a_declaration, a_directive, an_ident, le
 use Rattle.wesl_json_read.specs.Faults.{Locates, LocatesInside, LocatesRow}
 use Rattle.wesl_json_read.specs.Forms.{HasWord}
 use Rattle.wesl_json_read.specs.Numbers.{ReadsMay}
-use Rattle.wesl_json_read_unit.specs.Forms.{ReadsDeclaration, ReadsDirective, declaration_text, declaration_worded, directive_text, directive_worded}
+use Rattle.wesl_json_read_unit.specs.Forms.{ReadsDeclaration, ReadsDirective, declaration_of, declaration_text, directive_of, directive_text}
 use Rattle.wesl_json_read.specs.Noted.{Notes}
 use Rattle.wesl_json_read.specs.declared.reader.Reader.{Reader}
 use Rattle.wesl_json_read_unit.specs.declared.words.DeclarationWord.{DeclarationWord}
 use Rattle.wesl_json_read_unit.specs.declared.words.DirectiveWord.{DirectiveWord}
 
--- an object with this word is read as the tree, but for its span
+-- an object with this word of a directive is read as the tree, but for its span
 abbrev pub NotesDirective : DirectiveWord → Data → Tree → Reader → Reader → Type 0
-NotesDirective w d t = Notes (λ spans. ReadsDirective spans w d t) (λ spans. LocatesRow spans (directive_worded spans w) d)
+NotesDirective w d t = Notes (λ spans. ReadsDirective spans w d t) (λ spans. LocatesRow spans (directive_of spans w).row d)
 
+-- an object with this word of a global declaration is read as the tree, but for its span
 abbrev pub NotesDeclaration : DeclarationWord → Data → Tree → Reader → Reader → Type 0
-NotesDeclaration w d t = Notes (λ spans. ReadsDeclaration spans w d t) (λ spans. LocatesRow spans (declaration_worded spans w) d)
+NotesDeclaration w d t = Notes (λ spans. ReadsDeclaration spans w d t) (λ spans. LocatesRow spans (declaration_of spans w).row d)
 
--- the object has this word
+-- an object has this word of a directive; that it has none, or another value at `k`, is noted
 abbrev pub NotesDirectiveWord : Data → DirectiveWord → Reader → Reader → Type 0
 NotesDirectiveWord d w = Notes (λ _ old new. (new ≡ old) × HasWord (directive_text w) d) (λ spans. Locates spans (node a_directive) d)
 
+-- an object has this word of a global declaration; that it has none, or another value at `k`, is noted
 abbrev pub NotesDeclarationWord : Data → DeclarationWord → Reader → Reader → Type 0
 NotesDeclarationWord d w = Notes (λ _ old new. (new ≡ old) × HasWord (declaration_text w) d) (λ spans. Locates spans (node a_declaration) d)
 

@@ -20,10 +20,11 @@ use Rattle.wesl_json_form.specs.Words.{assignment_words, attribute_words, binary
 use Rattle.wesl_json_form.specs.Writing.{Writes, written, written_forest, put_list, word_of, text_or_null, short_expression_value, label_at, first_fit, candidates, marks, unmarked, span_value, is_placed}
 use Rattle.wesl_json_form.specs.Nodes.{body_row, call_row, condition_row, space_row}
 
--- the value, and the values of a list, unless memory was wanting
+-- what is written is this value, unless memory was refused
 abbrev pub IsWritten : {E : Type 0} → Result Piece E → Data → Type 0
 IsWritten r d = IfOk r (λ v. piece_view v ≡ d)
 
+-- what is written are these values of a list, unless memory was refused
 abbrev pub AreWritten : {A E : Type 0} → Result (Vec Piece A) E → Items → Type 0
 AreWritten r ds = IfOk r (λ vs. items_view vs.items ≡ ds)
 
@@ -45,39 +46,45 @@ bare_short an_expression ts = short_expression_value ts
 bare_short an_attribute ts = option_map string (option_and_then (word_of attribute_words) (label_at 0 ts))
 bare_short _ ts = None
 
+-- the object of a node that has no place, by the node of the form that it is; null where it is none
 abbrev pub bare_object : Option Node → Writes → Data
 bare_object None inside = null
 bare_object (Some n) inside = object (marks n.row (inside.row (unmarked n.row) no_members))
 
--- the same where it has no place
+-- a node that may have a span and has none, by the node in it: its short form, or an object
 unfoldable pub placed_in : Bool → List Text → Name → Kind → Tree → Data
 placed_in spans names m k t =
     let ts = shown_forest spans (name_in names) (before t end) in
     elim (bare_short m ts) as (λ _. Data) [ Some d ↦ d | None ↦ bare_object (first_fit (candidates spans m) (at k 0 0) ts) (written_forest spans ts) ]
 
+-- the word at `k` of a truth value, where it is an object
 abbrev pub truth_text : Bool → Text
 truth_text true = codes "true"
 truth_text false = codes "false"
 
--- the object that a node without a place becomes at one, where a text stands at a key
+-- what is written of a node without a span, with one: an object gets it as a member, a truth value or a text becomes an object,
+-- the text at the key k; anything else stays as it is
 unfoldable pub placed_data : ℕ → ℕ → Text → Data → Data
 placed_data s e k (object ms) = object (put (codes "span") (span_value s e) ms)
 placed_data s e k (boolean b) = object (put (codes "span") (span_value s e) (put (codes "k") (string (truth_text b)) no_members))
 placed_data s e k (string t) = object (put (codes "span") (span_value s e) (put k (string t) no_members))
 placed_data s e k d = d
 
+-- the start of the span that a label has; 0 where it has none
 abbrev pub start_of : SpelledLabel → ℕ
 start_of (at k s e) = s
 start_of _ = 0
 
+-- the end of the span that a label has; 0 where it has none
 abbrev pub end_of : SpelledLabel → ℕ
 end_of (at k s e) = e
 end_of _ = 0
 
+-- what is written of a node, with the span of its label, unless that is [0,0] or spans are not written
 unfoldable pub with_place : Bool → SpelledLabel → Text → Data → Data
 with_place spans l k d = if is_placed spans l then placed_data (start_of l) (end_of l) k d else d
 
--- the trees of a list
+-- trees after one another, as the items of a list
 unfoldable pub items_in : Bool → List Text → Name → Forest → Items
 items_in spans names m ts = (written_forest spans (shown_forest spans (name_in names) ts)).items m
 
@@ -98,7 +105,7 @@ with_list k ds ms = put_list k (array ds) ms
 unfoldable pub with_option : Text → Bool → List Text → Form → Tree → Members → Members
 with_option k spans names f t ms = (written_forest spans (shown_forest spans (name_in names) (before t end))).row (may k f nothing) ms
 
--- the members, with those that trees are by a row
+-- the members, with those that trees after one another are written as, by their row
 unfoldable pub with_row : Bool → List Text → Row → Forest → Members → Members
 with_row spans names row ts ms = (written_forest spans (shown_forest spans (name_in names) ts)).row row ms
 
@@ -110,6 +117,7 @@ call_members spans names t = with_row spans names call_row t.children no_members
 abbrev pub with_space : Bool → List Text → Tree → Members → Members
 with_space spans names t ms = with_row spans names space_row t.children ms
 
+-- an object without a word
 abbrev pub bare : Members → Data
 bare ms = object ms
 
@@ -121,12 +129,15 @@ worded w ms = object (with_member (codes "k") (string w) ms)
 abbrev pub word_value : Words → SpelledLabel → Data
 word_value words l = text_or_null (word_of words l)
 
+-- an expression that has no place
 abbrev pub expression_in : Bool → List Text → Tree → Data
 expression_in spans names t = placed_in spans names an_expression expression_node t
 
+-- an expression with this span
 abbrev pub expression_at : Bool → List Text → Span → Tree → Data
 expression_at spans names s t = placed_at spans names an_expression expression_node s t
 
+-- an expression with the span that it has
 abbrev pub expression_data : Bool → List Text → Spanned Expression → Data
 expression_data spans names e = expression_at spans names e.span (expression_view e.node)
 
@@ -134,6 +145,7 @@ expression_data spans names e = expression_at spans names e.span (expression_vie
 abbrev pub with_attributes : Bool → List Text → Vec (Spanned Attribute) Global → Members → Members
 with_attributes spans names attributes ms = with_list (codes "attrs") (items_in spans names an_attribute (attributes_tree attributes).children) ms
 
+-- a statement, an attribute and a global declaration, each with this span
 abbrev pub statement_at : Bool → List Text → Span → Tree → Data
 statement_at spans names s t = placed_at spans names a_statement statement_node s t
 
@@ -143,6 +155,7 @@ attribute_at spans names s t = placed_at spans names an_attribute attribute_node
 abbrev pub declaration_at : Bool → List Text → Span → Tree → Data
 declaration_at spans names s t = placed_at spans names a_declaration declaration_node s t
 
+-- a statement, an attribute and a global declaration, each where it has no place
 abbrev pub statement_in : Bool → List Text → Tree → Data
 statement_in spans names t = placed_in spans names a_statement statement_node t
 

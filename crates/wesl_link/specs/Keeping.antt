@@ -5,6 +5,7 @@ use Rattle.wesl_link_engine.specs.Resolved.{Resolved}
 use Rattle.wesl_link_engine.specs.Worlds.{Module}
 use Rattle.wesl_link.specs.declared.resolutions.Resolutions.{Resolutions}
 
+-- what resolutions say, as the linker's own value in them does
 abbrev pub resolved : Resolutions → Resolved
 resolved r = linker.resolved r.found
 

@@ -32,16 +32,6 @@ module _ {K : Type 0} (nothing : K) where
   other_default : (ks : List K) (i : ℕ) (d e : K) → i < length ks → slice_index_or ks i d ≡ slice_index_or ks i e
   other_default ks i d e h = grind (arith, common_steps)
 
-  pub none_numbered : Numbered [] [] []
-  none_numbered = record {
-    one_each = refl;
-    in_seen = λ i h. absurd (omega (arith, h));
-    means = λ i h. absurd (omega (arith, h));
-    used = λ m h. absurd (omega (arith, h));
-    apart = λ m n h. absurd (omega (arith, h));
-    first = λ i m h. absurd (omega (arith, h));
-  }
-
   pub numbered : (keys : List K) (numbers : List ℕ) (seen : List K) → Numbered keys numbers seen → AreNumbers keys numbers
   numbered keys numbers seen s = record {
     one_each = s.one_each;

@@ -1,7 +1,7 @@
 -- Trees without paths.
-use Rattle.std.proofs.Common.{◌≡◌, ℕ, Bool, true, false, List, ◌∷◌, ◌++◌, refl, ◌∙◌, ap}
+use Rattle.std.proofs.Common.{◌≡◌, Bool, true, false, List, ◌∷◌, ◌++◌, refl, ◌∙◌, ap}
 use Rattle.std.specs.Prelude.{if◌then◌else◌}
-use Rattle.wesl_tree_syntax.specs.Tree.{LabelOf, Forest, ForestOf, end, tree, kind, at, ident, text, texts, truth, unary, binary, assignment, space, access, path, identifiers, respell_forest, forest_below}
+use Rattle.wesl_tree_syntax.specs.Tree.{LabelOf, ForestOf, end, tree, kind, at, ident, text, texts, truth, unary, binary, assignment, space, access, path, identifiers, respell_forest}
 use Rattle.wesl_tree_syntax.specs.Nodes.{is_type}
 use Rattle.wesl_link_assembly.specs.Pathless.{without_path, has_words, without_paths}
 
@@ -112,33 +112,3 @@ module _ {I J : Type 0} (g : I → J) where
   respelled_without (tree (space v) children others) = paired _ _ _ _ _ (respelled_without children) (respelled_without others)
   respelled_without (tree (access v) children others) = paired _ _ _ _ _ (respelled_without children) (respelled_without others)
   respelled_without (tree (path v) children others) = paired _ _ _ _ _ (respelled_without children) (respelled_without others)
-
-module _ (n : ℕ) where
-  pub one_below : (f : Forest) → forest_below n f ≡ true → forest_below n (without_path f) ≡ true
-  one_below end h = h
-  one_below (tree (at k s e) children others) h = h
-  one_below (tree (ident r x) children others) h = h
-  one_below (tree (text v) children others) h = h
-  one_below (tree (texts v) children others) h = h
-  one_below (tree (truth v) children others) h = h
-  one_below (tree (unary v) children others) h = h
-  one_below (tree (binary v) children others) h = h
-  one_below (tree (assignment v) children others) h = h
-  one_below (tree (space v) children others) h = h
-  one_below (tree (access v) children others) h = h
-  one_below (tree (path v) children others) h = h
-  one_below (tree (kind j) end others) h = h
-  one_below (tree (kind j) (tree (at k s e) below beside) others) h = h
-  one_below (tree (kind j) (tree (ident r x) below beside) others) h = h
-  one_below (tree (kind j) (tree (text v) below beside) others) h = h
-  one_below (tree (kind j) (tree (texts v) below beside) others) h = h
-  one_below (tree (kind j) (tree (truth v) below beside) others) h = h
-  one_below (tree (kind j) (tree (unary v) below beside) others) h = h
-  one_below (tree (kind j) (tree (binary v) below beside) others) h = h
-  one_below (tree (kind j) (tree (assignment v) below beside) others) h = h
-  one_below (tree (kind j) (tree (space v) below beside) others) h = h
-  one_below (tree (kind j) (tree (access v) below beside) others) h = h
-  one_below (tree (kind j) (tree (kind i) below beside) others) h = h
-  one_below (tree (kind j) (tree (path v) end end) others) h = h
-  one_below (tree (kind j) (tree (path v) end (tree a b c)) others) h = h
-  one_below (tree (kind j) (tree (path v) (tree a b c) beside) others) h = h

@@ -1,14 +1,13 @@
 -- What a rewriting leaves that takes the path away from each type expression.
 use Rattle.std.proofs.Common.{◌≡◌, ℕ, Bool, true, false, ◌&&◌, refl, sym, ◌∙◌, ap}
 use Rattle.std.specs.Prelude.{if◌then◌else◌}
-use Rattle.wesl_tree_syntax.specs.Tree.{Kind, Label, Forest, Tree, tree, label_below, forest_below, tree_below, kind, at, ident, text, texts, truth, unary, binary, assignment, space, access, path, expression_node, statement_node, attribute_node, member_node, import_node, directive_node, declaration_node, literal, parenthesized, named_component, indexing, call_expression, call, type_or_identifier, type_expression, template_argument, list, present, absent, attributes, statements, clauses, members, parameters, align, binding, blend_src, builtin, const_attribute, diagnostic, group, id, interpolate, invariant_attribute, location, must_use, size, workgroup_size, vertex, fragment, compute, publish, if_attribute, elif_attribute, else_attribute, custom, void, compound_statement, compound, increment, decrement, if_statement, if_clause, else_if_clause, else_clause, switch, switch_clause, default_case, expression_case, loop, continuing, break_if, for_loop, while_loop, break, continue, return, discard, call_statement, const_assert, import_statement, import_item, import_collection, import_entry, diagnostic_directive, enable_directive, requires_directive, type_alias, struct, member, function, parameter, declaration, const_kind, override_kind, let_kind, var_kind, imports, directive_list, declarations, unit}
+use Rattle.wesl_tree_syntax.specs.Tree.{Kind, Label, Forest, Tree, tree, kind, at, ident, text, texts, truth, unary, binary, assignment, space, access, path, expression_node, statement_node, attribute_node, member_node, import_node, directive_node, declaration_node, literal, parenthesized, named_component, indexing, call_expression, call, type_or_identifier, type_expression, template_argument, list, present, absent, attributes, statements, clauses, members, parameters, align, binding, blend_src, builtin, const_attribute, diagnostic, group, id, interpolate, invariant_attribute, location, must_use, size, workgroup_size, vertex, fragment, compute, publish, if_attribute, elif_attribute, else_attribute, custom, void, compound_statement, compound, increment, decrement, if_statement, if_clause, else_if_clause, else_clause, switch, switch_clause, default_case, expression_case, loop, continuing, break_if, for_loop, while_loop, break, continue, return, discard, call_statement, const_assert, import_statement, import_item, import_collection, import_entry, diagnostic_directive, enable_directive, requires_directive, type_alias, struct, member, function, parameter, declaration, const_kind, override_kind, let_kind, var_kind, imports, directive_list, declarations, unit}
 use Rattle.wesl_tree_syntax.specs.Nodes.{is_type}
 use Rattle.wesl_visit_collect.specs.Sought.{types}
 use Rattle.wesl_visit_rewrite.specs.Replaced.{Rule, rule, Replaced, nothing, word, other, as_it_stands, inner_first, ReplacedBelow, of_word, of_other}
 use Rattle.wesl_tree_syntax.specs.Unit.{UnitView, forest_of_unit, trees_of}
 use Rattle.wesl_visit_rewrite.specs.Holders.{unit_tree}
 use Rattle.wesl_visit_rewrite.specs.Went.{WentBelow, WentBelowBy}
-use Rattle.wesl_link_assembly.proofs.Pathless.{one_below}
 use Rattle.wesl_link_assembly.specs.Pathless.{without_path, has_words, without_paths, pathless}
 
 -- no node of words is a type expression
@@ -149,18 +148,6 @@ shortened _ _ (inner_first {l = l} {m = m} {f = f} {f' = f'} {f'' = f''} {g = g}
     ap (λ x. tree x f'' h) same_label
     ∙ (ap (λ x. tree l x h) (of_types (is_type l) (has_words l) f (without_paths f) f'' t children)
     ∙ ap (λ x. tree l (if is_type l then without_path (without_paths f) else if has_words l then f else without_paths f) x) (shortened g h r))
-
-both : (a b : Bool) → (a && b) ≡ true → (a ≡ true) × (b ≡ true)
-both true b h = (refl, h)
-both false b h = absurd (let x : ⊥ = cc in x)
-
--- numbers stay below a bound
-pub keeps : (n : ℕ) (s t : Tree) → tree_below n s ≡ true → t ≡ pathless s → tree_below n t ≡ true
-keeps n s t b e =
-    let h = both (label_below n s.label) (forest_below n s.children) b in
-    let first = h.0 in
-    let second = one_below n s.children h.1 in
-    ap (tree_below n) e ∙ rw (first, second) refl
 
 below : (s t : Tree) → s.label ≡ kind unit → ReplacedBelow shorter s t → t.children ≡ without_paths s.children
 below _ _ e (of_word {l = l} {f = f} w) = absurd (let x : has_words l ≡ false = ap has_words e in let y : true ≡ false = sym w ∙ x in let z : ⊥ = cc in z)

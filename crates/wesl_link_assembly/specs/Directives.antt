@@ -10,6 +10,7 @@ use Rattle.wesl_tree_syntax.specs.declared.declaration.GlobalDirective.{GlobalDi
 use Rattle.wesl_link_assembly.specs.Linked.{shape}
 
 module _ {X : Type 0} where
+  -- the last element; the empty list has none
   abbrev pub last : List X → Option X
   last [] = None
   last (x ∷ []) = Some x
@@ -21,10 +22,11 @@ pub data Thins {X : Type 0} : List X → List X → Type 0 where
   other : (all kept : List X) (x : X) → Thins all kept → (last all ≡ Some x → ⊥) → Thins (all ++ x ∷ []) (kept ++ x ∷ [])
   again : (all kept : List X) (x : X) → Thins all kept → last all ≡ Some x → Thins (all ++ x ∷ []) kept
 
--- the directives of a unit, and of units one after the other, each as it is spelled
+-- the directives of a unit, each as it is spelled
 abbrev pub directives_of : UnitView → List (TreeOf Text)
 directives_of u = trees (spelled u).directives.children
 
+-- the directives of units, one unit after the other, each as it is spelled
 abbrev pub all_directives : List UnitView → List (TreeOf Text)
 all_directives us = flat_map directives_of us
 

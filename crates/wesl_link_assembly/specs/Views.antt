@@ -10,6 +10,7 @@ use Rattle.wesl_link_assembly.specs.declared.denotation.Denotation.TheVariants a
 abbrev pub Meaning : Type 0
 Meaning = DenotationOf PathId NameId ℕ
 
+-- what a value of the code says that an identifier stands for
 abbrev pub denotation_view : Denotation → Meaning
 denotation_view (made.Symbol s) = symbol s.path s.name
 denotation_view (made.Local p b n) = local p b n.now

@@ -3,7 +3,6 @@ use Rattle.std.proofs.Common.{◌≡◌, ℕ, zero, suc, ◌<◌, ◌+◌, List,
 use denote.Ref.{Bor}
 use Rattle.wesl_tree_names.specs.Path.{Text}
 use Rattle.wesl_tree_base.specs.Borrowed.{texts}
-use Rattle.wesl_link_tables.specs.Numbering.{AreRelated}
 
 pub texts_next : (xs : List (Bor Text)) (i : ℕ) (d : Bor Text) → i < length xs → texts (take (i + 1) xs) ≡ texts (take i xs) ++ (get_or xs i d).now ∷ []
 texts_next [] i d b = absurd (omega arith)

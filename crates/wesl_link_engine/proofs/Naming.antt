@@ -76,10 +76,6 @@ module _ (nb : Numbering) (different_paths : AreDifferent nb.paths) (different_n
 
 -- ---- all modules
 
-differ : (b c : Bool) → b ≡ false → (b && c) ≡ false
-differ false c e = refl
-differ true c e = absurd (let x : ⊥ = cc in x)
-
 is_false : (b : Bool) → (b ≡ true → ⊥) → b ≡ false
 is_false true h = absurd (h refl)
 is_false false h = refl
@@ -89,9 +85,6 @@ never true = refl
 never false = refl
 
 module _ (l : Link) (name_of : Path → Text → Text) (given : Given) where
-  nb : Numbering
-  nb = numbering l.numbers
-
   -- the root's too
   pub given_all : GivesTo (numbering l.numbers) (all_loaded l) name_of given → IsGivenAll l true name_of given
   given_all s m c p n x d at named =

@@ -14,10 +14,10 @@ use Rattle.wesl_link_tables.specs.Numbering.{AreRelated, Numbering, Grows, NameA
 use Rattle.wesl_link_tables.proofs.Lists.{related_more}
 use Rattle.wesl_link_tables.proofs.Related.{name_later, table_later}
 use Rattle.wesl_link_engine.specs.Handing.{HaveOne, IsHandedTable, IsRefusedPath}
-use Rattle.wesl_link_engine.specs.Worlds.{Module, table, task_of, IsLinked, IsRefused}
+use Rattle.wesl_link_engine.specs.Worlds.{Module, table, task_of, IsRefused}
 use Rattle.wesl_link_engine.specs.Refusal.{TellsOf, HasNumbers, TellsLinkError}
 use Rattle.wesl_link_engine.specs.declared.loaded.Held.{Held}
-use Rattle.wesl_link_engine.proofs.Built.{modules, linked_world, paths_one}
+use Rattle.wesl_link_engine.proofs.Built.{paths_one}
 use Rattle.wesl_link_engine.proofs.Refusing.{has_numbers, refusal_told}
 
 module _ (first nb : Numbering) (g : Grows first nb) (hands : Path → UnitOf Text → Type 0) (refuses : Path → resolve_error.ResolveError → Type 0) (units : List (PathId × Held)) (one : HaveOne units)
@@ -31,12 +31,6 @@ module _ (first nb : Numbering) (g : Grows first nb) (hands : Path → UnitOf Te
 
   to : (p : PathId) (q : Path) (e : resolve_error.ResolveError) → PathAt nb p q → IsRefusedPath refuses nb p e → refuses q e
   to p q e at (x, there, why) = subst (λ (y : Path). refuses y e) ((paths_one nb different_paths).one p x q there at) why
-
-  pub reach_linked : (k : linking.Linking PathId NameId) → linking.IsLinked (IsHandedTable hands nb units) (IsRefusedPath refuses nb) rt (linking.task_of rt kept is_eager) limit k
-      → (w : List Module) × IsLinked hands refuses rm (task_of rm keep is_eager) limit k.turns w
-  reach_linked k linked =
-      let (ms, rel) = modules nb hands units one rt rm root_now different_paths different_names asked k.tables linked.world in
-      (ms, linked_world nb hands units one rt rm root_now different_paths different_names asked k.tables linked.world ms rel kept keep kept_now is_eager refuses (IsRefusedPath refuses nb) (λ p q e at why. (q, at, why)) limit k.symbols k.turns linked)
 
   pub reach_numbers : (f : LinkError resolve_error.ResolveError) → IsExplained (IsHandedTable hands nb units) (IsRefusedPath refuses nb) rt (linking.task_of rt kept is_eager) limit f → HasNumbers nb f
   reach_numbers f x = has_numbers nb hands units one rt rm root_now different_paths different_names asked kept keep kept_now is_eager refuses (IsRefusedPath refuses nb) to limit f x

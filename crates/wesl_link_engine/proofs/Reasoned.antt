@@ -186,6 +186,3 @@ module _ (names : Given) (x : Node Path Text) (answer : Option (Vec Step Global)
   pub none_told : (o : Option Link) (l : Link) → o ≡ Some l → IfSome answer (λ steps. IsReasonOf l x (steps_told steps.items)) → IfNone answer (HoldsIn l x → ⊥)
       → (answer ≡ None) ↔ (IsHeldIn (resolved_of o names) x → ⊥)
   none_told o l is told none = subst (λ (z : Option Link). (answer ≡ None) ↔ (IsHeldIn (resolved_of z names) x → ⊥)) (sym is) (none_exactly l x (λ steps. steps_told steps.items) answer told none)
-
-  pub nothing_told : (o : Option Link) → o ≡ None → answer ≡ None → (answer ≡ None) ↔ (IsHeldIn (resolved_of o names) x → ⊥)
-  nothing_told o is none = subst (λ (z : Option Link). (answer ≡ None) ↔ (IsHeldIn (resolved_of z names) x → ⊥)) (sym is) ((λ e h. h), (λ h. none))

@@ -204,8 +204,5 @@ module _ (numbers : NumberTexts) (first : Numbering) (g : Grows first (numbering
         subst (λ (v : List Module). IsModuleOrder rm v) (sym f.modules)
         (found.found_order first nb g hands refuses units one rt rm root numbers.paths.different numbers.names.different numbers.paths.asked kept.items keep kept_same is_eager limit k linked ts is ms others.items rel same sorted)
 
-    pub eager_told : r.is_eager ≡ is_eager
-    eager_told = f.eager
-
     pub kept_told : r.kept ≡ keep
     kept_told = f.kept ∙ texts_are nb kept.items keep kept_now

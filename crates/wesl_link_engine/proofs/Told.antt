@@ -7,11 +7,6 @@ pub ok_told : {T E : Type 0} (P : T → Type 0) (r : Result T E) (x : T) → Som
 ok_told P (Ok y) x e h = let same : x ≡ y = cc in subst P (sym same) h
 ok_told P (Err z) x e h = cc
 
--- what holds where there is a value
-pub ok_so : {T E P : Type 0} (r : Result T E) → is_ok r ≡ true → OnOk r P → P
-ok_so (Ok y) e h = h
-ok_so (Err z) e h = cc
-
 -- what was pushed
 pub pushed : {T R E : Type 0} (old new : List T) (x : T) (r : Result R E) → is_ok r ≡ true → new ≡ (if is_ok r then old ++ x ∷ [] else old) → new ≡ old ++ x ∷ []
 pushed old new x (Ok y) e h = h

@@ -16,16 +16,19 @@ pub record Request : Type 0 where
   pub is_eager : Bool
   pub limit : ℕ
 
+-- the request that a value of the code stands for
 abbrev pub request_view : LinkRequest → Request
 request_view q = record { root = path_view q.root.now; keep = texts q.keep.now; is_eager = q.is_eager; limit = q.max_modules }
 
--- the request of a lazy link, of an eager one, and of either
+-- the request of a lazy link: what these names of the root reach
 abbrev pub lazily : ModulePath → List (Bor Text) → ℕ → Request
 lazily root keep limit = record { root = path_view root; keep = texts keep; is_eager = false; limit = limit }
 
+-- the request of an eager link: all that is declared
 abbrev pub eagerly : ModulePath → ℕ → Request
 eagerly root limit = record { root = path_view root; keep = []; is_eager = true; limit = limit }
 
+-- the request of a link that is lazy or eager; of an eager one the names count for nothing
 abbrev pub asking : ModulePath → List (Bor Text) → Bool → ℕ → Request
 asking root keep is_eager limit = record { root = path_view root; keep = texts keep; is_eager = is_eager; limit = limit }
 
@@ -34,6 +37,7 @@ abbrev pub kept_names : Bool → List Text → List Text
 kept_names true keep = []
 kept_names false keep = keep
 
+-- the names of the root that a request keeps: none where it is eager
 abbrev pub kept_of : Request → List Text
 kept_of q = kept_names q.is_eager q.keep
 
@@ -41,6 +45,7 @@ kept_of q = kept_names q.is_eager q.keep
 abbrev pub task_at : Path → List Text → Bool → Task Path Text
 task_at path keep is_eager = record { root = path; kept = kept_names is_eager keep; is_eager = is_eager }
 
+-- what a request asks to link
 abbrev pub task_for : Request → Task Path Text
 task_for q = task_at q.root q.keep q.is_eager
 

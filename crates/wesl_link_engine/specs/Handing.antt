@@ -31,6 +31,7 @@ pub record StaysOne {R : Type 0} (hands : R → Path → UnitOf Text → Type 0)
   pub on : (a b : R) → these a → MeansTheSame hands refuses source lacks shown a b → these b
   pub held : name ≡ loan
 
+-- the same, by what the resolver's type says of its answers
 abbrev pub StaysLent : {R : Type 0} → Ghosts R → (R → Type 0) → ℕ → R → ℕ → Type 0
 StaysLent g these loan resolver name = StaysOne g.hands g.refuses g.source g.lacks g.shown these loan resolver name
 

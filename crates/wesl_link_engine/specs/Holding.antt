@@ -100,6 +100,7 @@ AreClear ms = (n : NameId) → Contains ms (marks.Unclear n) → ⊥
 
 -- ---- parts
 
+-- a global declaration as a tree, its identifiers as numbers
 abbrev pub declaration_tree : Spanned GlobalDeclaration → Tree
 declaration_tree = tree_of global_view declaration_node
 
@@ -119,7 +120,7 @@ module _ (nb : Numbering) (k : Linking PathId NameId) (t : Table PathId NameId) 
     pub denotations : meanings after ≡ meanings before ++ meant
     pub means : AreRelated (IsMeant nb k t) ms meant
 
-  -- where it is held
+  -- the declaration is added so where it is held, and else nothing is
   pub data AddsOne (g : Spanned GlobalDeclaration) (name : Option NameId) (ms : List Mark) (before after : Parts) : Type 0 where
     is_added : IsHeldHere k t.path g.node name → AddsHeld (declaration_tree g) ms before after → AddsOne g name ms before after
     is_not_held : (IsHeldHere k t.path g.node name → ⊥) → after ≡ before → AddsOne g name ms before after
@@ -140,6 +141,7 @@ pub record AddsPlaced (l : Link) (all : List Placed) (before after : Parts) : Ty
   pub named : (d : Meaning) → Contains meant d → IsNamed (numbering l.numbers) d
   pub alike : AreAlike added held
 
+-- the declarations of the module that are held are added, with what their identifiers stand for
 abbrev pub AddsModule : Link → LoadedModule → Parts → Parts → Type 0
 AddsModule l m before after = AddsPlaced l (placed (module_of m)) before after
 

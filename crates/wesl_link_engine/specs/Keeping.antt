@@ -29,9 +29,11 @@ use Rattle.wesl_link_engine.specs.declared.resolutions.Resolutions.{Resolutions}
 
 -- ---- texts of numbers
 
+-- the path that has the number, and `package` where none has
 abbrev pub path_text : Numbering → PathId → Path
 path_text nb p = get_or nb.paths p.0 root_path
 
+-- the name that has the number, and the empty text where none has
 abbrev pub name_text : Numbering → NameId → Text
 name_text nb n = get_or nb.names n.0 []
 
@@ -46,10 +48,12 @@ abbrev pub place_of : {X : Type 0} → (X → Bool) → List X → Option ℕ
 place_of test [] = None
 place_of test (x ∷ xs) = if test x then Some 0 else option_map suc (place_of test xs)
 
+-- the name that was given, and the own one where none was
 abbrev pub or_own : Text → Option Text → Text
 or_own own None = own
 or_own own (Some x) = x
 
+-- the name that was given to the symbol whose path and name have these numbers; none where one of them has no number
 abbrev pub given_at : Given → Option ℕ → Option ℕ → Option Text
 given_at names (Some p) (Some n) = names (record { path = record { 0 = p }; name = record { 0 = n } })
 given_at names _ _ = None
@@ -60,9 +64,11 @@ name_under nb names p n = or_own n (given_at names (place_of (same_path p) nb.pa
 
 -- ---- modules
 
+-- modules that were loaded, in their order: their units, as they are spelled, at their paths
 abbrev pub loaded_modules : List LoadedModule → List Module
 loaded_modules ms = map module_of ms
 
+-- the modules that a link keeps with their units, the root's first
 abbrev pub all_loaded : Link → List LoadedModule
 all_loaded l = l.root ∷ l.others.items
 
@@ -89,9 +95,11 @@ pub record IsLinkOf (task : Task Path Text) (l : Link) : Type 0 where
       → Followed l.linked.tables (task_from root l.kept.items l.is_eager) look → IsMissingAt l.linked.tables look p n → ⊥
   pub clear : (t : Table PathId NameId) (name : Option NameId) (n : NameId) → Contains l.linked.tables t → IsHeld l.linked t.path name → IsUnclearFrom t name n → ⊥
 
+-- the names of the root that a link kept, as texts
 abbrev pub kept_texts : Link → List Text
 kept_texts l = map (name_text (numbering l.numbers)) l.kept.items
 
+-- what was linked: the names of the root that were kept, or all that is declared
 abbrev pub task_in : Link → Task Path Text
 task_in l = task_of (module_of l.root) (kept_texts l) l.is_eager
 
@@ -102,13 +110,16 @@ abbrev pub IsSoundLink : Option Link → Type 0
 IsSoundLink None = Unit {0}
 IsSoundLink (Some l) = IsLinkOf (task_in l) l
 
+-- the same of resolutions, which may have no link
 abbrev pub IsSound : Resolutions → Type 0
 IsSound r = IsSoundLink r.link
 
+-- what a link found, under the names that symbols were given; without a link no modules, and each name prints as itself
 abbrev pub resolved_of : Option Link → Given → Resolved
 resolved_of None names = record { modules = []; kept = []; is_eager = false; turns = 0; names = λ p n. n }
 resolved_of (Some l) names = record { modules = modules_in l; kept = kept_texts l; is_eager = l.is_eager; turns = l.linked.turns; names = name_under (numbering l.numbers) names }
 
+-- what resolutions say of their link, and of the names that symbols print as
 abbrev pub resolved : Resolutions → Resolved
 resolved r = resolved_of r.link (given r.given)
 

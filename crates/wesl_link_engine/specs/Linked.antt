@@ -19,6 +19,7 @@ use Rattle.wesl_link_engine.specs.Worlds.{Module, tables}
 
 -- ---- what identifiers stand for
 
+-- what an identifier of a linked unit stands for, with paths and names as texts, and blocks by their numbers
 abbrev pub Denotation : Type 0
 Denotation = DenotationOf Path Text ℕ
 
@@ -49,6 +50,7 @@ pub record Placed : Type 0 where
 abbrev pub placed : Module → List Placed
 placed m = paired (λ t us. record { home = m; declaration = t; uses = us }) (declarations_in m.unit) (uses m.path m.unit)
 
+-- whether the label is that of a const_assert
 abbrev pub is_assert : {I : Type 0} → LabelOf I → Bool
 is_assert (kind const_assert) = true
 is_assert _ = false
@@ -58,6 +60,7 @@ abbrev pub IsHeldAs : List (Table Path Text) → Task Path Text → Placed → O
 IsHeldAs w task d (Some n) = Reached w task (record { path = d.home.path; name = n })
 IsHeldAs w task d None = first_label false is_assert d.declaration.children ≡ true
 
+-- the declaration is held: the symbol of the name that it binds is reached, or it is a const_assert
 abbrev pub IsHeld : List (Table Path Text) → Task Path Text → Placed → Type 0
 IsHeld w task d = IsHeldAs w task d (name_of d.declaration)
 
@@ -86,11 +89,13 @@ AreMeanings w d meanings = AreRelated (StandsFor w d.home.path) d.uses meanings
 abbrev pub directives_in : List Module → List (TreeOf Text)
 directives_in ms = flat_map (λ m. trees m.unit.directives.children) ms
 
+-- the unit of these directives and held declarations, which has no imports
 abbrev pub unit_of : List (TreeOf Text) → List Placed → UnitOf Text
 unit_of directives held = record { imports = branch imports_kind []; directives = branch directive_list directives; declarations = branch declarations_kind (map (λ d. d.declaration) held) }
 
--- The linked unit of modules in their order: of equal adjacent directives one, and the held declarations of each module; references
--- without their paths, each identifier under the name of what it stands for (words stand for themselves), and numbered by it.
+-- The linked unit of modules in their order: of equal adjacent directives one, and the held declarations of each module;
+-- references without their paths, each identifier under the name of what it stands for (words stand for themselves), and
+-- numbered by it.
 pub record IsAssembled (w : List Module) (task : Task Path Text) (names : Path → Text → Text) (unit : UnitView) : Type 0 where
   pub directives : List (TreeOf Text)
   pub held : List Placed

@@ -27,6 +27,7 @@ step_view (step.KeptName n) = node.KeptName n.now
 step_view (step.Module p) = node.Module (path_view p.now)
 step_view (step.Item p n) = node.Item (record { path = path_view p.now; name = n.now })
 
+-- what steps tell, in their order
 abbrev pub steps_told : List Step → List (Node Path Text)
 steps_told steps = map step_view steps
 
@@ -41,6 +42,7 @@ IsHeldFrom r (root ∷ others) x = IsHeld (tables (root ∷ others)) (task_of ro
 abbrev pub IsHeldIn : Resolved → Node Path Text → Type 0
 IsHeldIn r x = IsHeldFrom r r.modules x
 
+-- of the modules, the root's first: the chain is a reason of it in their link; of no modules none is
 abbrev pub IsReasonFrom : Resolved → List Module → Node Path Text → List (Node Path Text) → Type 0
 IsReasonFrom r [] x chain = ⊥
 IsReasonFrom r (root ∷ others) x chain = IsReason (tables (root ∷ others)) (task_of root r.kept r.is_eager) x chain
@@ -54,10 +56,11 @@ IsReasonIn r x chain = IsReasonFrom r r.modules x chain
 abbrev pub TellsReason : Resolved → Node Path Text → Option (Vec Step Global) → Type 0
 TellsReason r x answer = IfSome answer (λ steps. IsReasonIn r x (steps_told steps.items))
 
--- the symbol of a name in the module at a path, and that module
+-- the symbol of a name in the module at a path
 abbrev pub item_at : ModulePath → Text → Node Path Text
 item_at p n = node.Item (record { path = path_view p; name = n })
 
+-- the module at a path
 abbrev pub module_node : ModulePath → Node Path Text
 module_node p = node.Module (path_view p)
 
@@ -69,12 +72,13 @@ told_node nb (node.KeptName n) = node.KeptName (name_text nb n)
 told_node nb (node.Module p) = node.Module (path_text nb p)
 told_node nb (node.Item s) = node.Item (record { path = path_text nb s.path; name = name_text nb s.name })
 
--- the node's numbers have texts, and those of each node do
+-- the numbers of the node have texts, that of its path and that of its name, as far as it has them
 abbrev pub HasTexts : Numbering → Node PathId NameId → Type 0
 HasTexts nb (node.KeptName n) = (x : Text) × NameAt nb n x
 HasTexts nb (node.Module p) = (q : Path) × PathAt nb p q
 HasTexts nb (node.Item s) = ((q : Path) × PathAt nb s.path q) × ((x : Text) × NameAt nb s.name x)
 
+-- the numbers of all these nodes have texts
 abbrev pub HaveTexts : Numbering → List (Node PathId NameId) → Type 0
 HaveTexts nb xs = (x : Node PathId NameId) → Contains xs x → HasTexts nb x
 
@@ -86,9 +90,10 @@ IsNodeOf nb y x = HasTexts nb x × (told_node nb x ≡ y)
 abbrev pub AreReasonsIn : Link → List Found → Type 0
 AreReasonsIn l fs = (root : PathId) × PathAt (numbering l.numbers) root (path_view l.root.path) × AreReasons l.linked.tables (task_from root l.kept.items l.is_eager) fs
 
--- what is held in the link, and what is a reason of it, as it keeps its modules
+-- it is held in the link, by the modules that the link keeps
 abbrev pub HoldsIn : Link → Node Path Text → Type 0
 HoldsIn l x = IsHeld (tables (modules_in l)) (task_in l) x
 
+-- the chain is a reason of it in the link, by the modules that the link keeps
 abbrev pub IsReasonOf : Link → Node Path Text → List (Node Path Text) → Type 0
 IsReasonOf l x chain = IsReason (tables (modules_in l)) (task_in l) x chain

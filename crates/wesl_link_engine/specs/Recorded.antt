@@ -32,11 +32,11 @@ abbrev pub firsts : List Text → List Text
 firsts [] = []
 firsts (n ∷ ns) = n ∷ filter (λ m. not (bytes_eq m n)) (firsts ns)
 
--- the names of these items of a module
+-- a write for each of these items of a module, under the name that is made of its path and the item
 abbrev pub writes_of : (Path → Text → Text) → Path → List Text → List Write
 writes_of name_of p ns = map (λ n. record { mangled = name_of p n; path = p; item = n }) ns
 
--- the text of a name
+-- the text of a name, and the empty text where its number is that of none
 abbrev pub text_of : Numbering → NameId → Text
 text_of nb n = get_or nb.names n.0 []
 

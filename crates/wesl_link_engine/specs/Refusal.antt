@@ -30,7 +30,7 @@ TellsOf P (error.ModuleLimit k) = P (too_many k)
 TellsOf P error.Memory = Unit {0}
 TellsOf P _ = ⊥
 
--- the names and paths of the fault have these numbers
+-- the numbers that the fault has are numbers of names and of paths
 abbrev pub HasNumbers : Numbering → LinkError resolve_error.ResolveError → Type 0
 HasNumbers numbering (faults.DuplicateSymbol p n) = (x : Text) × NameAt numbering n x
 HasNumbers numbering (faults.Refused r) = Unit {0}

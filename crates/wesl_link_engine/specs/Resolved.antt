@@ -14,6 +14,7 @@ use Rattle.wesl_link_engine.specs.Recorded.{Write, IsRecordedBy, firsts, writes_
 use Rattle.wesl_link_engine.specs.Worlds.{Module, table, task_of}
 use Rattle.wesl_link_engine.specs.Linked.{IsAssembled}
 
+-- What a link found. It took a turn for each module and for each reached symbol.
 pub record Resolved : Type 0 where
   -- the modules of the link, the root's first
   pub modules : List Module
@@ -32,9 +33,11 @@ module_at path unit = record { path = path_view path; unit = spelled (unit_view 
 abbrev pub paths_of : List Module → List Path
 paths_of ms = map (λ m. m.path) ms
 
+-- these paths, in their order
 abbrev pub paths_told : List (Bor ModulePath) → List Path
 paths_told ps = map (λ p. path_view p.now) ps
 
+-- the path of the root, which is the first module; none where there are no modules
 abbrev pub first_path : List Module → Option Path
 first_path [] = None
 first_path (m ∷ ms) = Some m.path
@@ -88,10 +91,12 @@ RecordsWrites g old new mangle_root w = IsRecordedBy g.writes (writes (g.name_of
 
 -- ---- the linked unit
 
+-- of the modules, the root's first: the unit is their linked form; of no modules it is the empty unit
 abbrev pub IsAssembledOf : Resolved → List Module → UnitView → Type 0
 IsAssembledOf r [] unit = unit ≡ empty_unit
 IsAssembledOf r (root ∷ others) unit = IsAssembled (root ∷ others) (task_of root r.kept r.is_eager) r.names unit
 
--- the linked form of the modules, from the kept names of the root or of all that is declared, each symbol under its printed name; of no modules the empty unit
+-- the linked form of the modules, from the kept names of the root or of all that is declared, each symbol under its printed
+-- name; of no modules the empty unit
 abbrev pub AssemblesTo : Resolved → UnitView → Type 0
 AssemblesTo r unit = IsAssembledOf r r.modules unit

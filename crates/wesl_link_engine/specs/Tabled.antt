@@ -10,6 +10,7 @@ use Rattle.wesl_link_engine.specs.Worlds.{Module, table}
 use Rattle.wesl_link_engine.specs.Resolved.{module_at}
 use Rattle.wesl_link_engine.specs.declared.loaded.LoadedModule.{LoadedModule}
 
+-- a module that was loaded: its unit, as it is spelled, at its path
 abbrev pub module_of : LoadedModule → Module
 module_of m = module_at m.path m.unit
 

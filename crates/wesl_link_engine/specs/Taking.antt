@@ -13,6 +13,7 @@ use Rattle.wesl_link_tables.specs.Numbering.{Numbering, AreRelated, PathAt}
 use Rattle.wesl_link_engine.specs.declared.loaded.Held.{Held}
 use Rattle.wesl_link_engine.specs.declared.loaded.LoadedModule.{LoadedModule}
 
+-- whether two numbers of paths are equal
 abbrev pub path_eq : PathId → PathId → Bool
 path_eq = (equality.ghosts).eq
 
@@ -37,7 +38,7 @@ IsPlaced ts t m = (i : ℕ) × (m.place ≡ suc i) × (slice_get ts i ≡ Some t
 abbrev pub IsTaken : Numbering → List (PathId × Held) → List (Table PathId NameId) → Table PathId NameId → LoadedModule → Type 0
 IsTaken numbering units ts t m = PathAt numbering t.path (path_view m.path) × (unit_at units t.path ≡ Some (record { unit = m.unit; marks = m.marks })) × IsPlaced ts t m
 
--- none stands before the one in front of it
+-- the modules stand in path order: none has a path before that of the one in front of it
 abbrev pub AreInOrder : List LoadedModule → Type 0
 AreInOrder ms = AllAdjacentBelow (λ m n. path_before (path_view n.path) (path_view m.path) ≡ false) ms (length ms)
 

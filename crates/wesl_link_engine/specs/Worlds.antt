@@ -16,9 +16,11 @@ pub record Module : Type 0 where
   pub path : Path
   pub unit : UnitOf Text
 
+-- the symbol table of a module
 abbrev pub table : Module → Table Path Text
 table m = table_at m.path m.unit
 
+-- the symbol tables of modules, in their order
 abbrev pub tables : List Module → List (Table Path Text)
 tables w = map table w
 

@@ -196,8 +196,8 @@ fn copy_declaration<'a>(
 /// Copies of the held declarations of a module are added.
 fn copy_module<'a>(alloc: Global, link: &'a Link, module: &LoadedModule, parts: &mut Parts<'a>)
     requires sound { IsLinkOf (task_in link.now) link.now }
-    requires inside { Contains (all_loaded link.now) module.now }
-    ensures added { parts.new.is_refused ≡ false → holding.AddsModule link.now module.now parts.old parts.new }
+    requires inside { Contains (all_loaded link.now) «module».now }
+    ensures added { parts.new.is_refused ≡ false → holding.AddsModule link.now «module».now parts.old parts.new }
     ensures noted { parts.new.is_refused ≡ false → parts.old.is_refused ≡ false }
 {
     let table = table_at(&link.linked, module.place);

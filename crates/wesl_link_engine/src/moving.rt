@@ -3,10 +3,9 @@ ghost use Rattle.std.specs.Prelude.{◌≡◌, ◌∷◌, [], false, List, Conta
 ghost use Rattle.wesl_tree_names.specs.declared.errors.Error as error;
 ghost use Rattle.wesl_tree.specs.Translation.{unit_view};
 ghost use Rattle.wesl_link_tables.specs.TextsView.{numbering_of_texts as numbering};
-ghost use Rattle.wesl_link_assembly.specs.Views.{Meaning};
 ghost use Rattle.wesl_link_engine.specs.GivenView.{given as given_names};
 ghost use Rattle.wesl_link_engine.specs.Linked.{IsAssembled};
-ghost use Rattle.wesl_link_engine.specs.Keeping.{all_loaded, modules_in, name_under, IsLinkOf, task_in};
+ghost use Rattle.wesl_link_engine.specs.Keeping.{modules_in, name_under, IsLinkOf, task_in};
 ghost use Rattle.wesl_link_engine.specs.Holding as holding;
 ghost use Rattle.wesl_link_engine.specs.declared.link.Link.{Link};
 

@@ -98,9 +98,6 @@ module _ (P : Option Path → Option Path → Type 0) (a a' b b' n : ℕ) where
   weak true s t h = h
   weak false s t h = h
 
-  weak_path : (w : Bool) (p q : Option Path) → ((w || false) ≡ true) ⊎ P p q → ((w || false) ≡ true) ⊎ P p q
-  weak_path w p q h = h
-
   holding : (w : Bool) (s t : Surroundings Block) (k m : Block) → SameHere w s t → SameBlock k m → SameHere w (record s { held_block = k }) (record t { held_block = m })
   holding w s t k m h e = record { block = h.block; held_block = e; is_local = h.is_local; words = h.words; in_words = h.in_words }
 

@@ -76,10 +76,6 @@ module _ (names : List Text) (all : List (Occurrence ℕ)) (means : ℕ → Deno
     global_in_module : (r : Standing) (b : Block) → is_binder r ≡ true → (is_binder r && bytes_eq b []) ≡ false → b ≡ [] → ⊥
     global_in_module r b h g e = let x : bytes_eq b [] ≡ true = (bytes_eq-Decides b []).1 e in let y : (true && true) ≡ false = ap₂ (λ i j. i && j) (sym h) (sym x) ∙ g in let z : ⊥ = cc in z
 
-    -- what has no binder's number stands for a free name
-    abbrev FreeSo : Occurrence ℕ → Type 0
-    FreeSo o = (n : Text) × (means o.name ≡ free_name n) × (unbound_as (name_of names all o) o.role ≡ free n)
-
     free_named : (m n : Text) (d : Denotation) → m ≡ print d → d ≡ free_name n → m ≡ n
     free_named m n d e f = e ∙ (ap print f ∙ so.free_printed n)
 

@@ -45,13 +45,6 @@ module _ {I : Type 0} where
   shape_bared (kind k) = refl
   shape_bared _ = refl
 
-  path_shaped : (sh : Shape) (f : ForestOf I) → path_of sh (shape f) ≡ path_of sh f
-  path_shaped of_type end = refl
-  path_shaped of_type (tree l end o) = refl
-  path_shaped of_type (tree l (tree (path p) c u) o) = refl
-  path_shaped of_type (tree l (tree _ c u) o) = refl
-  path_shaped _ f = refl
-
   no_path : (sh : Shape) (f : ForestOf I) → (sh ≡ of_type → ⊥) → path_of sh f ≡ None
   no_path of_type f h = absurd (h refl)
   no_path _ f h = refl
@@ -319,7 +312,3 @@ module _ {I J : Type 0} (g : I → J) where
 
   pub typed_at_respelled : (l : LabelOf I) (c : ForestOf I) → is_typed_at (respell_label g l) (respell_forest g c) ≡ is_typed_at l c
   typed_at_respelled l c = ap₂ (λ a b. if a then b else true) (type_respelled l) (begins_respelled c)
-
-  pub typed_respelled : (f : ForestOf I) → is_typed (respell_forest g f) ≡ is_typed f
-  typed_respelled end = refl
-  typed_respelled (tree l c o) = ap₂ (λ a b. a && b) (typed_at_respelled l c) (ap₂ (λ a b. a && b) (typed_respelled c) (typed_respelled o))

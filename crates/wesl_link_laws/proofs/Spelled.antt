@@ -92,9 +92,6 @@ module _ (w : List Module) (task : Task Path Text) (held : List Placed) (srcs : 
       f.0 (global_so o (visible_binds r.place o.role so.0) so.2) so.1
       ∙ same_number g r g_in r_in e)))
 
-  Stands : Standing → Block → Denotation → Type 0
-  Stands = StandsHere w task held srcs gs entered means way all lay names print
-
   binder_not_free : (v : Standing) (b : Block) (d : Denotation) (n : Text) → is_binder v ≡ true → StandsHere w task held srcs gs entered means way all lay names print v b d → d ≡ free_name n → ⊥
   binder_not_free module_name b d n h (e, (p, m, s)) f = let x : symbol p m ≡ free_name n = sym s ∙ f in let z : ⊥ = cc in z
   binder_not_free parameter b d n h (p, k, m, s, t) f = let x : local p k m ≡ free_name n = sym s ∙ f in let z : ⊥ = cc in z

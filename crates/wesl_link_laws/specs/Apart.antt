@@ -17,6 +17,7 @@ module _ (names : List Text) (all : List (Occurrence ℕ)) where
   abbrev pub SpellsNoGlobal : Occurrence ℕ → Type 0
   SpellsNoGlobal o = All (λ b. is_global b ≡ true → name_of names all o ≢ name_of names all b) all
 
+  -- no name of a function and no free name is spelled as a name of the module, and names of it that are spelled alike are one
   pub record SpellsNone : Type 0 where
     -- binders of the module's block that are spelled alike have one number
     pub globals_apart : All (λ a. is_global a ≡ true → All (λ b. is_global b ≡ true → name_of names all b ≡ name_of names all a → b.name ≡ a.name) all) all

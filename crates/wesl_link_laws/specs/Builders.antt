@@ -85,6 +85,8 @@ use Rattle.wesl_tree_syntax.specs.declared.declaration.AddressSpace.{AddressSpac
 use Rattle.wesl_tree_syntax.specs.Unit.{UnitOf}
 
 module _ {I : Type 0} where
+  -- what all others are made of: trees side by side, a node with a label and one of a kind, the node that holds a span (here
+  -- from 0 to 0), what may be absent and is, what may be absent and is there, and a list:
   abbrev pub trees : List (TreeOf I) → ForestOf I
   trees [] = end
   trees (t ∷ ts) = tree t.label t.children (trees ts)
@@ -107,7 +109,7 @@ module _ {I : Type 0} where
   abbrev pub all : List (TreeOf I) → TreeOf I
   all ts = branch list ts
 
-  -- types and expressions
+  -- each form of a type and of an expression, where an identifier is a reference, and expressions have their spans:
   abbrev pub plain_type : I → TreeOf I
   plain_type x = branch type_expression (none ∷ node (ident reference x) [] ∷ none ∷ [])
 
@@ -141,7 +143,7 @@ module _ {I : Type 0} where
   abbrev pub called : TreeOf I → List (TreeOf I) → TreeOf I
   called t es = branch call (t ∷ all es ∷ [])
 
-  -- attributes
+  -- a list of attributes, each with its span, an attribute without and one with an operand, and `@workgroup_size`:
   abbrev pub attrs : List (TreeOf I) → TreeOf I
   attrs xs = branch attributes (map (placed attribute_node) xs)
 
@@ -154,7 +156,7 @@ module _ {I : Type 0} where
   abbrev pub workgroup : TreeOf I → TreeOf I → TreeOf I → TreeOf I
   workgroup x y z = branch workgroup_size (x ∷ y ∷ z ∷ [])
 
-  -- imports
+  -- an item of an import, one with a new name, a collection, an entry of one, and the path and the whole of an import:
   abbrev pub item : I → TreeOf I
   item x = branch import_item (node (ident binder x) [] ∷ none ∷ [])
 
@@ -173,7 +175,8 @@ module _ {I : Type 0} where
   abbrev pub import_of : List (TreeOf I) → TreeOf I → TreeOf I → TreeOf I
   import_of a p c = placed import_node (branch import_statement (attrs a ∷ p ∷ c ∷ []))
 
-  -- declarations and statements, without spans
+  -- Each form of a declaration, of a statement, of `enable` and of their parts, where the first list is that of its attributes,
+  -- and the name that it declares is a binder. Members and directives have their spans; a statement gets its by `statement`:
   abbrev pub declare : List (TreeOf I) → TreeOf I → I → TreeOf I → TreeOf I → TreeOf I
   declare a k x t e = branch declaration (attrs a ∷ k ∷ node (ident binder x) [] ∷ t ∷ e ∷ [])
 
@@ -265,6 +268,7 @@ module _ {I : Type 0} where
   abbrev pub module_of : List (TreeOf I) → List (TreeOf I) → List (TreeOf I) → UnitOf I
   module_of is gs ds = record { imports = branch imports is; directives = branch directive_list gs; declarations = branch declarations (map (placed declaration_node) ds) }
 
+  -- the words `const` and `let` of a declaration:
   abbrev pub const_value : TreeOf I
   const_value = branch const_kind []
 

@@ -15,11 +15,12 @@ use Rattle.wesl_link_laws.specs.Apart.{OfLocalsAndFree}
 abbrev pub Holds : List Module → Task Path Text → Symbol Path Text → Type 0
 Holds w task s = Reached (tables w) task s
 
--- the same of the modules of a `Resolutions`
+-- the same of the modules of a `Resolutions`, the root first; without modules no symbol is reached
 abbrev pub Reaches : Resolved → List Module → Symbol Path Text → Type 0
 Reaches r [] s = ⊥
 Reaches r (root ∷ others) s = Holds (root ∷ others) (task_of root r.kept r.is_eager) s
 
+-- the link of a `Resolutions` reaches the symbol
 abbrev pub HoldsSymbol : Resolved → Symbol Path Text → Type 0
 HoldsSymbol r s = Reaches r r.modules s
 

@@ -36,10 +36,12 @@ shadowed =
     ∷ (function_of [] 1 ((parameter_of [] 2 (plain_type 3)) ∷ []) [] none (body [] ((declare [] let_value 4 none (some (of_type (plain_type 2)))) ∷ [])))
     ∷ []))
 
+-- each definition that ends in `_row` says of the unit above it whether its names, read by plain scoping, mean what its
+-- numbers say:
 abbrev pub shadowed_row : Type 0
 shadowed_row = is_faithful shadowed ≡ true
 
--- parameter package_a_f
+-- fn main(package_a_f: i32) { package_a_f(); } fn package_a_f() {} where the call means the function
 abbrev pub parameter_clash : UnitView
 parameter_clash =
     unit_of ((codes "main") ∷ (codes "package_a_f") ∷ (codes "i32") ∷ (codes "package_a_f") ∷ [])
@@ -51,7 +53,7 @@ parameter_clash =
 abbrev pub parameter_clash_row : Type 0
 parameter_clash_row = is_faithful parameter_clash ≡ false
 
--- parameter q
+-- fn main(q: i32) { package_a_f(); } fn package_a_f() {}
 abbrev pub parameter_apart : UnitView
 parameter_apart =
     unit_of ((codes "main") ∷ (codes "q") ∷ (codes "i32") ∷ (codes "package_a_f") ∷ [])
@@ -63,7 +65,7 @@ parameter_apart =
 abbrev pub parameter_apart_row : Type 0
 parameter_apart_row = is_faithful parameter_apart ≡ true
 
--- a free helper, root unmangled
+-- const helper = 1; const main = helper + package_a_k; const package_a_k = helper; where the last `helper` is free
 abbrev pub free_clash : UnitView
 free_clash =
     unit_of ((codes "helper") ∷ (codes "main") ∷ (codes "package_a_k") ∷ (codes "helper") ∷ [])
@@ -76,7 +78,7 @@ free_clash =
 abbrev pub free_clash_row : Type 0
 free_clash_row = is_faithful free_clash ≡ false
 
--- a free helper, root mangled
+-- the same, where the names of the root are mangled: no declaration is spelled as the free `helper`
 abbrev pub free_apart : UnitView
 free_apart =
     unit_of ((codes "package_main_helper") ∷ (codes "package_main_main") ∷ (codes "package_a_k") ∷ (codes "helper") ∷ [])
@@ -89,7 +91,7 @@ free_apart =
 abbrev pub free_apart_row : Type 0
 free_apart_row = is_faithful free_apart ≡ true
 
--- mangler none
+-- const k = k; const k = 1; where the first constant refers to the second, of another module, and nothing is mangled
 abbrev pub unmangled : UnitView
 unmangled =
     unit_of ((codes "k") ∷ (codes "k") ∷ [])
@@ -98,7 +100,7 @@ unmangled =
 abbrev pub unmangled_row : Type 0
 unmangled_row = is_faithful unmangled ≡ false
 
--- a free mangled name
+-- const package_m_k = package_a_f + package_a_f; const package_a_f = 1; where the first package_a_f is a free name
 abbrev pub free_mangled : UnitView
 free_mangled =
     unit_of ((codes "package_m_k") ∷ (codes "package_a_f") ∷ (codes "package_a_f") ∷ [])
@@ -110,6 +112,7 @@ free_mangled =
 abbrev pub free_mangled_row : Type 0
 free_mangled_row = is_faithful free_mangled ≡ false
 
+-- In body_0 to body_4 `main` has the body shown, and the name of the function `f` of package::a prints as package_a_f.
 -- let package_a_f = package::a::f();
 abbrev pub body_0 : UnitView
 body_0 =
@@ -179,7 +182,7 @@ body_4 =
 abbrev pub body_4_row : Type 0
 body_4_row = is_faithful body_4 ≡ false
 
--- fn f() { { let x = 1; } let y = x; } (numbers changed)
+-- fn f() { { let x = 1; } let y = x; } where both x have one number
 abbrev pub free_with_binders_number : UnitView
 free_with_binders_number =
     unit_of ((codes "f") ∷ (codes "x") ∷ (codes "y") ∷ [])
@@ -194,7 +197,7 @@ free_with_binders_number =
 abbrev pub free_with_binders_number_row : Type 0
 free_with_binders_number_row = is_faithful free_with_binders_number ≡ false
 
--- fn f() { let x = 1; let y = x; let x = 2; } (numbers changed)
+-- fn f() { let x = 1; let y = x; let x = 2; } where the last x has a number of its own
 abbrev pub two_locals_one_after : UnitView
 two_locals_one_after =
     unit_of ((codes "f") ∷ (codes "x") ∷ (codes "y") ∷ (codes "x") ∷ [])
@@ -209,7 +212,7 @@ two_locals_one_after =
 abbrev pub two_locals_one_after_row : Type 0
 two_locals_one_after_row = is_faithful two_locals_one_after ≡ true
 
--- fn f() { let x = 1; let x = 2; let y = x; } (numbers changed)
+-- fn f() { let x = 1; let x = 2; let y = x; } where the first x has a number of its own
 abbrev pub two_locals_both_before : UnitView
 two_locals_both_before =
     unit_of ((codes "f") ∷ (codes "x") ∷ (codes "x") ∷ (codes "y") ∷ [])
@@ -224,7 +227,7 @@ two_locals_both_before =
 abbrev pub two_locals_both_before_row : Type 0
 two_locals_both_before_row = is_faithful two_locals_both_before ≡ false
 
--- const x = 1; const x = 2; (numbers changed)
+-- const x = 1; const x = 2; where the two constants have two numbers
 abbrev pub two_module_names : UnitView
 two_module_names =
     unit_of ((codes "x") ∷ (codes "x") ∷ [])
@@ -234,7 +237,7 @@ two_module_names =
 abbrev pub two_module_names_row : Type 0
 two_module_names_row = is_faithful two_module_names ≡ false
 
--- fn f() { let x = 1; let x = 2; x(); } (numbers changed: the call has the first x's)
+-- fn f() { let x = 1; let x = 2; x(); } where the two locals have two numbers, and the call that of the first
 abbrev pub first_of_two_locals : UnitView
 first_of_two_locals =
     unit_of ((codes "f") ∷ (codes "x") ∷ (codes "x") ∷ [])
@@ -249,7 +252,7 @@ first_of_two_locals =
 abbrev pub first_of_two_locals_row : Type 0
 first_of_two_locals_row = is_faithful first_of_two_locals ≡ false
 
--- const x = k; const y; where k and y have one number, so one name: it is then bound
+-- const x = k; const k; where both k have one number: the use comes before the declaration
 abbrev pub global_before_use : UnitView
 global_before_use =
     unit_of ((codes "x") ∷ (codes "k") ∷ [])
@@ -258,7 +261,7 @@ global_before_use =
 abbrev pub global_before_use_row : Type 0
 global_before_use_row = is_faithful global_before_use ≡ true
 
--- fn f() { let y = x; let x = 1; } (numbers changed: the free x has the local's)
+-- fn f() { let y = x; let x = 1; } where both x have one number
 abbrev pub free_with_a_later_local_number : UnitView
 free_with_a_later_local_number =
     unit_of ((codes "f") ∷ (codes "y") ∷ (codes "x") ∷ [])
@@ -270,7 +273,7 @@ free_with_a_later_local_number =
 abbrev pub free_with_a_later_local_number_row : Type 0
 free_with_a_later_local_number_row = is_faithful free_with_a_later_local_number ≡ false
 
--- fn f(x: i32, x: i32) { x(); } (numbers changed: two parameters, two numbers)
+-- fn f(x: i32, x: i32) { x(); } where the two parameters have two numbers, and the call that of the first
 abbrev pub two_parameters : UnitView
 two_parameters =
     unit_of ((codes "f") ∷ (codes "x") ∷ (codes "i32") ∷ (codes "x") ∷ [])
@@ -282,7 +285,8 @@ two_parameters =
 abbrev pub two_parameters_row : Type 0
 two_parameters_row = is_faithful two_parameters ≡ false
 
--- `retarget_idents` leaves each of these units as it is exactly where its names do not clash
+-- `retarget_idents` leaves each of these units as it is exactly where its names do not clash. The unit `two_locals_one_after`
+-- is not among them: there they do not clash, but two numbers stand for one name of one block.
 abbrev pub shadowed_retargeted : Type 0
 shadowed_retargeted = is_retargeted shadowed ≡ true
 

@@ -44,13 +44,17 @@ EscapedIsFaithful =
 
 -- ---- the same of the unit of a `Resolutions`, whose modules are those of code
 
+-- the unit of a `Resolutions` whose modules are entered is faithful exactly where its numbers are the canonical ones
 abbrev pub ResolvedIsCanonical : Type 0
 ResolvedIsCanonical = (r : Resolutions) (unit : UnitView) → IsEntered (resolved r) → AssemblesTo (resolved r) unit → IsFaithful unit ↔ HasCanonicalNumbers unit
 
+-- the unit of such a `Resolutions` is faithful where its names are apart
 abbrev pub ResolvedIsFaithful : Type 0
 ResolvedIsFaithful = (r : Resolutions) (unit : UnitView) → IsEntered (resolved r) → AssemblesTo (resolved r) unit → NamesAreApart unit → IsFaithful unit
 
--- the names in it are short, as all of code, so that its reversible symbols are read back
+-- Where the modules of a `Resolutions` are entered, and it is mangled by escape names, the root too, its unit is faithful if
+-- each symbol that it holds is reversible, and no parameter, no local declaration and no free reference of it is spelled as
+-- the escape name of one. (The names in it are short, as all of code, so that its reversible symbols are read back.)
 abbrev pub MangledIsFaithful : Type 0
 MangledIsFaithful =
     (before after : Resolutions) (unit : UnitView) → IsEntered (resolved before) → IsMangled escape true (resolved before) (resolved after) → AssemblesTo (resolved after) unit

@@ -25,5 +25,6 @@ abbrev pub AreEntered : Resolved → List Module → Type 0
 AreEntered r [] = Unit {0}
 AreEntered r (root ∷ others) = (m : Module) → Contains (root ∷ others) m → Entered (tables (root ∷ others)) (task_of root r.kept r.is_eager) m.path
 
+-- each module of a `Resolutions` is entered from its root
 abbrev pub IsEntered : Resolved → Type 0
 IsEntered r = AreEntered r r.modules

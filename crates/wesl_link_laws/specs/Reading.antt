@@ -13,10 +13,12 @@ module _ {K : Type 0} (names : List Text) (all : List (Occurrence ℕ)) (means :
   StandFor d [] = All (λ o. is_binder o.role ≡ true → means o.name ≢ d) all
   StandFor d (x ∷ xs) = All (λ o. means o.name ≡ d) (x ∷ xs)
 
+  -- plain scoping of the names says what the numbers stand for, of binders of the module's block and references without a path
   pub record ReadsAsMeant : Type 0 where
     -- binders of the module's block that are spelled alike stand for one thing
     pub module_names_apart : All (λ a. is_global a ≡ true → All (λ b. is_global b ≡ true → name_of names all b ≡ name_of names all a → means b.name ≡ means a.name) all) all
-    -- the binders that an unqualified reference picks by its name stand for what it stands for; where it picks none, no binder does
+    -- the binders that an unqualified reference picks by its name stand for what it stands for; where it picks none, no binder
+    -- does
     pub references_read_so : All (λ r. is_unqualified r.role ≡ true → StandFor (means r.name) (binders_of names all (name_of names all r) r.place r.block)) all
 
 -- The numbers of the unit stand for what its identifiers denote, under the names that these are printed as, and plain

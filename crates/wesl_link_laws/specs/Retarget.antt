@@ -1,4 +1,4 @@
--- The retarget test.
+-- A large worked module, of a test of `retarget_idents`: which of its identifiers have one number.
 use Rattle.std.specs.Prelude.{◌≡◌, ℕ, true, Option, Some, None, List, [], ◌∷◌, codes}
 use Rattle.wesl_tree_names.specs.Path.{Text, from_package}
 use Rattle.wesl_tree_syntax.specs.Tree.{increment}
@@ -44,7 +44,7 @@ use Rattle.wesl_link_laws.specs.Builders.{
 }
 use Rattle.wesl_link_laws.specs.Canonical.{canonical_numbers, numbers_agree}
 
--- The retarget test: each name without its digits.
+-- The module of a test of `retarget_idents`. Its names had digits, equal exactly where they mean one thing: these are left out.
 abbrev pub retarget_module : UnitOf Text
 retarget_module =
     module_of
@@ -98,7 +98,7 @@ retarget_module =
     ∷ (function_of [] (codes "f") [] [] none (body [] [])) ∷ (function_of [] (codes "g") [] [] none (body [] []))
     ∷ [])
 
--- the digits of the names, in document order
+-- the digits of the names, in document order, and `None` of a name without digits
 abbrev pub digits : List (Option ℕ)
 digits =
     Some 0 ∷ Some 0 ∷ Some 0 ∷ None ∷ Some 0 ∷ Some 1 ∷ Some 2 ∷ Some 3 ∷ Some 4 ∷ Some 1 ∷ Some 1 ∷ Some 0 ∷ Some 1 ∷ Some 2 ∷ Some 3 ∷ Some 4 ∷ Some 2
@@ -109,5 +109,6 @@ digits =
     ∷ Some 7 ∷ Some 13 ∷ Some 13 ∷ Some 14 ∷ Some 13 ∷ Some 14 ∷ Some 14 ∷ Some 14 ∷ Some 14 ∷ Some 14 ∷ Some 15 ∷ Some 13 ∷ Some 17 ∷ Some 15 ∷ Some 16
     ∷ Some 15 ∷ Some 16 ∷ Some 17 ∷ Some 7 ∷ Some 7 ∷ Some 18 ∷ Some 19 ∷ Some 7 ∷ Some 7 ∷ Some 18 ∷ Some 19 ∷ []
 
+-- two identifiers whose names have digits have one canonical number exactly where the digits are the same
 abbrev pub RetargetRow : Type 0
 RetargetRow = numbers_agree digits (canonical_numbers retarget_module) ≡ true

@@ -71,6 +71,7 @@ for_loop =
     ∷ [])))
     ∷ [])
 
+-- each definition that ends in `_row` says what the canonical numbers of the module above it are, in document order:
 abbrev pub for_loop_row : Type 0
 for_loop_row = canonical_numbers for_loop ≡ (0 ∷ 1 ∷ 2 ∷ 0 ∷ 2 ∷ 2 ∷ 2 ∷ 2 ∷ 2 ∷ [])
 
@@ -159,7 +160,8 @@ branches =
 abbrev pub branches_row : Type 0
 branches_row = canonical_numbers branches ≡ (0 ∷ 1 ∷ 0 ∷ 2 ∷ 0 ∷ 0 ∷ 3 ∷ 0 ∷ 3 ∷ 0 ∷ 4 ∷ 0 ∷ [])
 
--- const x; fn f() { while x { let x = x; } { let x = x; { x(); } } switch x { case x, default { let x = x; } case x { x(); } } x(); }
+-- const x; fn f() { while x { let x = x; } { let x = x; { x(); } }
+-- switch x { case x, default { let x = x; } case x { x(); } } x(); }
 abbrev pub bodies : UnitOf Text
 bodies =
     module_of [] []

@@ -1,7 +1,7 @@
 -- What the names used in a module ask for.
 use Rattle.std.proofs.Common.{◌≡◌, ◌↔◌, inl, inr, ℕ, ◌<◌, ◌≤◌, ◌+◌, List, [], ◌∷◌, ◌++◌, length, take, slice_get, slice_index_or, Option, Some, None, Contains, arith, subst, sym, ap, ◌∙◌}
 use Rattle.std.proofs.lemmas.List.Elements.{Contains-push_cases, Contains-append_left, Contains-push}
-use Rattle.std.proofs.lemmas.List.{take_more, take_all}
+use Rattle.std.proofs.lemmas.List.{take_more}
 use Rattle.std.proofs.lemmas.Option.{slice_get_within}
 use Rattle.std.proofs.lemmas.Bool.{cases_lt}
 use Rattle.std.proofs.Math.Nat.{eq-or-lt_of_le}
@@ -19,13 +19,6 @@ AsksBehind {P} {N} t name n l = (i : ℕ) × (n ≤ i) × (d : Declaration P N) 
 
 module _ {P N : Type 0} where
   -- ---- the look-ups of a list of references
-
-  pub asked_start : (t : Table P N) (rs : List (Reference P N)) (from : List (LookUp P N)) → Gains from from (AsksIn t (take 0 rs))
-  asked_start t rs from = record {
-    kept = λ l h. h;
-    only = λ l h. inl h;
-    all = λ l (r, held, asks). absurd (contains_nil r held);
-  }
 
   asked_by_one : (t : Table P N) (seen more : List (Reference P N)) (r : Reference P N) (from mid to : List (LookUp P N)) (l : LookUp P N) → more ≡ seen ++ r ∷ []
       → Gains from mid (AsksIn t seen) → l ≡ asked_for t r → to ≡ mid ++ l ∷ [] → Gains from to (AsksIn t more)
@@ -49,9 +42,6 @@ module _ {P N : Type 0} where
   pub asked_more : (t : Table P N) (rs : List (Reference P N)) (i : ℕ) (d : Reference P N) (from mid to : List (LookUp P N)) (l : LookUp P N) → i < length rs
       → Gains from mid (AsksIn t (take i rs)) → l ≡ asked_for t (slice_index_or rs i d) → to ≡ mid ++ l ∷ [] → Gains from to (AsksIn t (take (i + 1) rs))
   asked_more t rs i d from mid to l b g is f = asked_by_one t (take i rs) (take (i + 1) rs) (slice_index_or rs i d) from mid to l (take_more rs i d b) g is f
-
-  pub asked_all : (t : Table P N) (rs qs : List (Reference P N)) (i : ℕ) (from to : List (LookUp P N)) → rs ≡ qs → length rs ≤ i → Gains from to (AsksIn t (take i rs)) → Gains from to (AsksIn t qs)
-  asked_all t rs qs i from to e b g = subst (λ (xs : List (Reference P N)). Gains from to (AsksIn t xs)) (take_all i rs b ∙ e) g
 
   -- ---- the look-ups of the declarations of a name, from the last to the first
 

@@ -1,5 +1,5 @@
 -- What following a look-up keeps, and what its refusals mean.
-use Rattle.std.proofs.Common.{◌≡◌, ◌↔◌, ◌⊎◌, inl, inr, ℕ, zero, suc, ◌≤◌, List, [], ◌∷◌, ◌++◌, length, reverse, slice_get, Some, Contains, arith, subst, sym, refl, ap, ◌∙◌}
+use Rattle.std.proofs.Common.{◌≡◌, ◌⊎◌, inl, inr, ℕ, zero, suc, ◌≤◌, List, [], ◌∷◌, ◌++◌, length, reverse, slice_get, Some, Contains, arith, subst, sym, refl, ap, ◌∙◌}
 use Rattle.std.proofs.lemmas.List.Elements.{Contains-push_cases, Contains-append_left, Contains-push}
 use Rattle.wesl_link_symbols.specs.declared.ids.PathId.{PathId}
 use Rattle.wesl_tree_base.specs.declared.ids.NameId.{NameId}
@@ -11,7 +11,7 @@ use Rattle.wesl_link_symbols.specs.declared.symbols.LookUp.{LookUp}
 use Rattle.wesl_link_symbols.specs.declared.symbols.Symbol.{Symbol}
 use Rattle.wesl_link_symbols.specs.Tables.{Table}
 use Rattle.wesl_link_symbols.specs.Names.{Answers}
-use Rattle.wesl_link_reach.specs.World.{IsAt, Hops, HasMet, Finds, LeadsTo, Walk, Task, Entered, Reached, Followed}
+use Rattle.wesl_link_reach.specs.World.{IsAt, Hops, HasMet, LeadsTo, Walk, Task, Entered, Reached, Followed}
 use Rattle.wesl_link_reach.specs.World.Walk.{begin, step}
 use Rattle.wesl_link_reach.specs.World.Entered.{asked}
 use Rattle.wesl_link_reach.specs.World.Reached.{led_to}

@@ -13,9 +13,6 @@ use Rattle.wesl_link_reach.proofs.Lists.{contains_one}
 pub within_itself : {X : Type 0} (xs : List X) → Within xs xs
 within_itself xs = record { held = λ x h. h }
 
-pub within_trans : {X : Type 0} {xs ys zs : List X} → Within xs ys → Within ys zs → Within xs zs
-within_trans a b = record { held = λ x h. b.held x (a.held x h) }
-
 pub within_push : {X : Type 0} (xs : List X) (x : X) → Within xs (xs ++ x ∷ [])
 within_push xs x = record { held = λ y h. Contains-append_left xs (x ∷ []) y h }
 
@@ -32,9 +29,6 @@ within_cons {X} m xs ys more = record {
 
 pub goes_on_itself : {X : Type 0} (xs : List X) → GoesOn xs xs
 goes_on_itself xs = ([], sym (append-nil xs))
-
-pub goes_on_push : {X : Type 0} (xs ys : List X) (x : X) → ys ≡ xs ++ x ∷ [] → GoesOn xs ys
-goes_on_push xs ys x e = (x ∷ [], e)
 
 pub goes_on_trans : {X : Type 0} (xs ys zs : List X) → GoesOn xs ys → GoesOn ys zs → GoesOn xs zs
 goes_on_trans {X} xs ys zs (a, e) (b, f) = (a ++ b, f ∙ (ap (λ (t : List X). t ++ b) e ∙ append_assoc xs a b))
@@ -96,7 +90,3 @@ turn_at Q xs ys i x at on earlier here = turn_more Q xs ys i x (slice_get_within
 
 pub index_at : {X : Type 0} (xs ys : List X) (i : ℕ) (d : X) → xs ≡ ys → i < length ys → slice_get ys i ≡ Some (slice_index_or xs i d)
 index_at {X} xs ys i d e b = slice_get-get_or ys i d b ∙ ap (λ (zs : List X). Some (slice_index_or zs i d)) (sym e)
-
--- the same where the loop has the element by a name of its own
-pub element_is : {X : Type 0} (xs ys : List X) (k : ℕ) (x : X) → xs ≡ ys → k < length xs → x ≡ slice_index_or xs k x → Contains ys x
-element_is {X} xs ys k x e b is = subst (λ (zs : List X). Contains zs x) e (k, b, sym is)

@@ -7,7 +7,7 @@ use Rattle.wesl_link_symbols.specs.declared.symbols.Symbol.{Symbol}
 use Rattle.wesl_link_symbols.specs.Tables.{Table}
 use Rattle.wesl_link_reach.specs.World.{IsAt, IsWorld, LeadsTo, Task, Entered, Reached}
 use Rattle.wesl_link_reach.specs.World.Entered.{root as root_entered}
-use Rattle.wesl_link_reach.specs.Faults.{AreDistinct, IsAdmitted, Clashes, duplicate, refused, too_many, too_many_flags, Explained}
+use Rattle.wesl_link_reach.specs.Faults.{AreDistinct, IsAdmitted, Clashes, duplicate, too_many, too_many_flags, Explained}
 use Rattle.wesl_link_reach.specs.Faults.AreDistinct.{none, one_more as one_distinct}
 use Rattle.wesl_link_reach.specs.Linking.{paths}
 use Rattle.wesl_link_reach.specs.Loader.{IsReady, OnlyAdds}
@@ -249,11 +249,6 @@ module _ {P N : Type 0} {hands : P → Table P N → Type 0} {ready : P → Type
           omega arith,
         ),
       )
-
-  -- no module at an entered path, and the loader refuses it
-  pub refusal_refused : {E : Type 0} (refuses : P → E → Type 0) (p : P) (e : E) → IsSoundIn hands ready root task limit others ss places answers steps → Entered (root ∷ others) task p
-      → ((x : Table P N) → IsAt (root ∷ others) p x → ⊥) → refuses p e → Explained hands refuses root task limit (refused e)
-  refusal_refused refuses p e s entered absent is = (root ∷ others, s.world, (p, entered, absent, is))
 
 module _ {P N : Type 0} where
   pub there_more : (root : Table P N) (others more : List (Table P N)) (added : Table P N) → more ≡ others ++ added ∷ [] → (t : Table P N) × IsAt (root ∷ more) added.path t

@@ -1,12 +1,12 @@
 -- Walks that go on over steps which were trodden.
-use Rattle.std.proofs.Common.{◌≡◌, ◌⊎◌, inl, inr, ℕ, ◌<◌, ◌≤◌, List, [], ◌∷◌, ◌++◌, length, reverse, slice_get, Some, Contains, arith, subst, sym, refl, ap, ◌∙◌, append_assoc}
+use Rattle.std.proofs.Common.{◌≡◌, ◌⊎◌, inl, inr, ℕ, ◌<◌, ◌≤◌, List, [], ◌∷◌, ◌++◌, length, reverse, Contains, arith, subst, sym, refl, ap, ◌∙◌, append_assoc}
 use Rattle.std.proofs.lemmas.List.{append-nil, reverse-append}
 use Rattle.std.proofs.lemmas.List.Elements.{Contains-append_left, Contains-append_right, Contains-append_cases}
 use Rattle.std.proofs.lemmas.Option.{slice_get_within}
 use Rattle.wesl_link_symbols.specs.declared.symbols.LookUp.{LookUp}
 use Rattle.wesl_link_symbols.specs.declared.symbols.Symbol.{Symbol}
 use Rattle.wesl_link_symbols.specs.Tables.{Table}
-use Rattle.wesl_link_reach.specs.World.{Finds, Hops, HasMet, LeadsTo, Walk}
+use Rattle.wesl_link_reach.specs.World.{Finds, HasMet, LeadsTo, Walk}
 use Rattle.wesl_link_reach.specs.World.Walk.{begin, step}
 use Rattle.wesl_link_reach.specs.Laws.{Within}
 use Rattle.wesl_link_reach.specs.Loading.{GoesOn}

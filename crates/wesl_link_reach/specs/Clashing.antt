@@ -27,9 +27,11 @@ module _ {P N : Type 0} where
   abbrev pub MeetsDeclaration : Table P N → Import P N → Type 0
   MeetsDeclaration t i = (d : Declaration P N) × Contains t.declarations d × (d.name ≡ Some i.bound) × Meet t d.place i.place
 
+  -- no declaration of its name is there at once
   abbrev pub MeetsNoDeclaration : Table P N → Import P N → Type 0
   MeetsNoDeclaration t i = (d : Declaration P N) → Contains t.declarations d → d.name ≡ Some i.bound → Meet t d.place i.place → ⊥
 
-  -- its target is that of the declarations that are there at once, and of the last import of its name or of all imports of it that are there at once
+  -- its target is that of the declarations that are there at once, and that of the last import of its name or of all imports of
+  -- it that are there at once
   abbrev pub IsAlone : Table P N → Import P N → Type 0
   IsAlone t i = (IsOwn t.path i ⊎ MeetsNoDeclaration t i) × (IsLikeLast t i ⊎ MeetsNoOther t i)

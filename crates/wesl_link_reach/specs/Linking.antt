@@ -5,9 +5,11 @@ use Rattle.wesl_link_symbols.specs.Tables.{Table}
 use Rattle.wesl_link_reach.specs.World.{IsAt, IsWorld, Task, Entered, Reached}
 use Rattle.wesl_link_reach.specs.Faults.{Fault, Stands, AreDistinct}
 
+-- what is linked: the root's path, the names of it that are kept, and whether all that is declared is held
 abbrev pub task_of : {P N : Type 0} → Table P N → List N → Bool → Task P N
 task_of root kept is_eager = record { root = root.path; kept = kept; is_eager = is_eager }
 
+-- the paths of modules, in their order
 abbrev pub paths : {P N : Type 0} → List (Table P N) → List P
 paths w = map (λ t. t.path) w
 

@@ -61,7 +61,8 @@ module _ {P N : Type 0} where
   abbrev pub HasFound : List (Table P N) → List (Symbol P N) → LookUp P N → Type 0
   HasFound w ss l = Finds w l (symbol_of l) × Contains ss (symbol_of l)
 
--- all that the module's const_asserts ask for is clear and answered; an eager link holds its symbols and has the modules that it imports from
+-- all that the module's const_asserts ask for is clear and answered; an eager link holds its symbols and has the modules that
+-- it imports from
 pub record IsModuleDone {P N : Type 0} (w : List (Table P N)) (task : Task P N) (ss : List (Symbol P N)) (answers : List (LookUp P N × Symbol P N)) (t : Table P N) : Type 0 where
   pub clear : (n : N) → IsUnclearFrom t None n → ⊥
   pub asserts : (l : LookUp P N) → AsksFrom t None l → IsAnswered answers l
@@ -100,10 +101,11 @@ module _ {P N : Type 0} where
 abbrev pub world_of : Request → Loaded → List (Table PathId NameId)
 world_of r s = r.root ∷ s.others.items
 
+-- what a request asks to link
 abbrev pub task_at : Request → Task PathId NameId
 task_at r = task_of r.root r.kept.items r.is_eager
 
--- the same with other steps
+-- what is loaded, with other steps
 abbrev pub with_trodden : Loaded → TroddenSteps PathId NameId → Loaded
 with_trodden s steps = record s { trodden = steps }
 
@@ -119,6 +121,7 @@ HoldsAtPath r s p Q = (t : Table PathId NameId) × IsAt (world_of r s) p t × Q 
 abbrev pub HoldsAtPlace : Request → Loaded → ℕ → (Table PathId NameId → Type 0) → Type 0
 HoldsAtPlace r s place Q = (t : Table PathId NameId) × (slice_get (world_of r s) place ≡ Some t) × Q t
 
+-- so it is of what is loaded for a request, where these modules are handed out and these paths may be asked for
 abbrev pub IsSound : (PathId → Table PathId NameId → Type 0) → (PathId → Type 0) → Request → Loaded → Type 0
 IsSound hands ready r s = IsSoundIn hands ready r.root (task_at r) r.max_modules s.others.items s.symbols.keys s.places.entries s.answers.entries s.trodden.steps
 

@@ -14,6 +14,7 @@ module _ {P N : Type 0} where
   abbrev pub symbol_of : LookUp P N → Symbol P N
   symbol_of l = record { path = l.path; name = l.name }
 
+  -- the step at the place is of this look-up, and this is its symbol
   abbrev pub StepAt : List (LookUp P N × Symbol P N) → ℕ → LookUp P N → Symbol P N → Type 0
   StepAt steps k l s = slice_get steps k ≡ Some (l, s)
 
@@ -56,6 +57,7 @@ pub record IsTrodden {P N : Type 0} (w : List (Table P N)) (ss : List (Symbol P 
   pub held : Contains ss s
   pub asked : (b : LookUp P N) → Contains (last ∷ met) b → IsAskedUpTo steps k b
 
+-- so it is for each of the steps
 abbrev pub AreTrodden : {P N : Type 0} → List (Table P N) → List (Symbol P N) → List (LookUp P N × Symbol P N) → Type 0
 AreTrodden {P} {N} w ss steps = (k : ℕ) (l : LookUp P N) (s : Symbol P N) → StepAt steps k l s → IsTrodden w ss steps k l s
 

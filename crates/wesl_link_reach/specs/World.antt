@@ -12,6 +12,7 @@ use Rattle.wesl_link_symbols.specs.Names.{Declares, AsksFrom, Answers}
 -- ---- between modules: a world is a list of modules
 
 module _ {P N : Type 0} where
+  -- the table is that of a module of the world which stands at the path
   abbrev pub IsAt : List (Table P N) → P → Table P N → Type 0
   IsAt w p t = Contains w t × (t.path ≡ p)
 
@@ -22,6 +23,7 @@ pub record IsWorld {P N : Type 0} (hands : P → Table P N → Type 0) (root : T
   pub one_table : (t u : Table P N) → Contains w t → Contains w u → t.path ≡ u.path → t ≡ u
 
 module _ {P N : Type 0} where
+  -- the module that is asked answers that it declares the name, and this is the symbol
   abbrev pub Finds : List (Table P N) → LookUp P N → Symbol P N → Type 0
   Finds w l s = (t : Table P N) × IsAt w l.path t × Answers t l Declared × (s ≡ record { path = l.path; name = l.name })
 
@@ -29,9 +31,11 @@ module _ {P N : Type 0} where
   abbrev pub Hops : List (Table P N) → LookUp P N → LookUp P N → Type 0
   Hops w a b = (t : Table P N) × IsAt w a.path t × Answers t a (Next b)
 
+  -- both ask the same module for the same name; who asks, and from where, plays no part
   abbrev pub SameQuestion : LookUp P N → LookUp P N → Type 0
   SameQuestion a b = (a.path ≡ b.path) × (a.name ≡ b.name)
 
+  -- one of the look-ups that were met asks the same
   abbrev pub HasMet : List (LookUp P N) → LookUp P N → Type 0
   HasMet met a = (b : LookUp P N) × Contains met b × SameQuestion a b
 
@@ -49,7 +53,7 @@ module _ {P N : Type 0} where
   abbrev pub Reaches : List (Table P N) → LookUp P N → LookUp P N → Type 0
   Reaches w l a = (met : List (LookUp P N)) × Walk w l met a × (HasMet met a → ⊥)
 
-  -- and the module answers so
+  -- a walk comes there for the first time, and the module that is asked there answers so
   abbrev pub EndsWith : List (Table P N) → LookUp P N → LookUp P N → Answer P N → Type 0
   EndsWith w l a x = Reaches w l a × ((t : Table P N) × IsAt w a.path t × Answers t a x)
 
@@ -86,15 +90,18 @@ module _ {P N : Type 0} where
 -- module that a walk of it comes to, and reaches the symbol that it leads to. The eager link, besides, reaches all that
 -- an entered module declares, and enters the path of each of its imports.
 mutual
+  -- entered are the root, what a walk of a followed look-up comes to, and in an eager link what an entered module imports from
   pub data Entered {P N : Type 0} (w : List (Table P N)) (task : Task P N) : P → Type 0 where
     root : (p : P) → p ≡ task.root → Entered w task p
     asked : (l a : LookUp P N) (p : P) → Followed w task l → WalksTo w l a → a.path ≡ p → Entered w task p
     imported : (q p : P) (t : Table P N) (i : Import P N) → task.is_eager ≡ true → Entered w task q → IsAt w q t → Contains t.imports i → i.path ≡ p → Entered w task p
 
+  -- reached is what a followed look-up leads to, and in an eager link what an entered module declares
   pub data Reached {P N : Type 0} (w : List (Table P N)) (task : Task P N) : Symbol P N → Type 0 where
     led_to : (l : LookUp P N) (s : Symbol P N) → Followed w task l → LeadsTo w l s → Reached w task s
     declared : (s : Symbol P N) (t : Table P N) → task.is_eager ≡ true → Entered w task s.path → IsAt w s.path t → Declares t s.name → Reached w task s
 
+  -- followed are the look-ups of kept names, of const_asserts of entered modules, and of declarations of reached symbols
   pub data Followed {P N : Type 0} (w : List (Table P N)) (task : Task P N) : LookUp P N → Type 0 where
     kept : (l : LookUp P N) → IsKept task l → Followed w task l
     by_assert : (p : P) (t : Table P N) (l : LookUp P N) → Entered w task p → IsAt w p t → AsksFrom t None l → Followed w task l

@@ -1,6 +1,6 @@
 -- What is found as nodes are added.
 use Rattle.std.proofs.Common.{◌≡◌, ◌⊎◌, inl, inr, ℕ, ◌<◌, ◌≤◌, ◌+◌, List, [], ◌∷◌, ◌++◌, length, take, slice_get, slice_index_or, Option, Some, None, IfNone, Contains, arith, subst, sym, refl, ap, ◌∙◌}
-use Rattle.std.proofs.lemmas.List.{take_more, take_all}
+use Rattle.std.proofs.lemmas.List.{take_more}
 use Rattle.std.proofs.lemmas.List.Elements.{Contains-push_cases, Contains-append_left, Contains-push}
 use Rattle.std.proofs.lemmas.Option.{slice_get_within}
 use Rattle.std.proofs.lemmas.Bool.{cases_lt}
@@ -38,9 +38,6 @@ stays_length {a} {b} stays = elim (cases_lt (length b) (length a)) [
 
 pub adds_none : (a : List Found) (o : Option ℕ) (Q : Item → Type 0) → ((x : Item) → Q x → IsFound a x) → AddsFound a a o Q
 adds_none a o Q all = record { kept = record { at = λ k f e. e }; only = λ k f at. inl at; all = all }
-
-pub adds_found : (a : List Found) (x : Item) (o : Option ℕ) (k : ℕ) → IsFoundAt a x k → AddsFound a a o (λ y. y ≡ x)
-adds_found a x o k here = adds_none a o (λ y. y ≡ x) (λ y e. (k, subst (λ (z : Item). IsFoundAt a z k) (sym e) here))
 
 pub adds_one : (a b : List Found) (x : Item) (o : Option ℕ) → b ≡ a ++ record { node = x; asker = o } ∷ [] → AddsFound a b o (λ y. y ≡ x)
 adds_one a b x o e = record {
@@ -83,9 +80,6 @@ adds_as Q R adds to from = record {
 abbrev pub OfOne : {X : Type 0} → (X → Item → Type 0) → List X → Item → Type 0
 OfOne {X} F xs x = (e : X) × Contains xs e × F e x
 
-pub adds_start : {X : Type 0} (F : X → Item → Type 0) (xs : List X) (a : List Found) (o : Option ℕ) → AddsFound a a o (OfOne F (take 0 xs))
-adds_start F xs a o = adds_none a o (OfOne F (take 0 xs)) (λ x (e, held, f). absurd (contains_nil e held))
-
 adds_step : {X : Type 0} (F : X → Item → Type 0) (seen more : List X) (e : X) {a b c : List Found} {o : Option ℕ} → more ≡ seen ++ e ∷ []
     → AddsFound a b o (OfOne F seen) → AddsFound b c o (F e) → AddsFound a c o (OfOne F more)
 adds_step {X} F seen more e is first second = adds_both (OfOne F seen) (F e) (OfOne F more) first second
@@ -99,9 +93,6 @@ adds_step {X} F seen more e is first second = adds_both (OfOne F seen) (F e) (Of
 pub adds_next : {X : Type 0} (F : X → Item → Type 0) (xs : List X) (i : ℕ) (d : X) {a b c : List Found} {o : Option ℕ} → i < length xs
     → AddsFound a b o (OfOne F (take i xs)) → AddsFound b c o (F (slice_index_or xs i d)) → AddsFound a c o (OfOne F (take (i + 1) xs))
 adds_next F xs i d less = adds_step F (take i xs) (take (i + 1) xs) (slice_index_or xs i d) (take_more xs i d less)
-
-pub adds_all : {X : Type 0} (F : X → Item → Type 0) (xs ys : List X) (i : ℕ) {a b : List Found} {o : Option ℕ} → xs ≡ ys → length xs ≤ i → AddsFound a b o (OfOne F (take i xs)) → AddsFound a b o (OfOne F ys)
-adds_all {X} F xs ys i {a} {b} {o} e past adds = subst (λ (zs : List X). AddsFound a b o (OfOne F zs)) (take_all i xs past ∙ e) adds
 
 -- the same where the loop has the element by a name of its own
 pub adds_item : {X : Type 0} (F : X → Item → Type 0) (xs : List X) (i : ℕ) (e : X) {a b c : List Found} {o : Option ℕ} → i < length xs → e ≡ slice_index_or xs i e

@@ -19,7 +19,7 @@ use Rattle.wesl_link_reasons.specs.declared.node.Node.{Node}
 use Rattle.wesl_link_reasons.specs.declared.node.Node.TheVariants.{KeptName, Module, Item}
 use Rattle.wesl_link_reasons.specs.Reasons.{Chain, AsksFor, IsHeld}
 use Rattle.wesl_link_reasons.specs.Reasons.Chain.{alone, before}
-use Rattle.wesl_link_reasons.specs.Found.{IsFoundAt, IsFound, IsGiven, AreGiven, AreReasons, Denies, LeadsBack, Explains}
+use Rattle.wesl_link_reasons.specs.Found.{IsFoundAt, IsFound, IsGiven, AreGiven, AreReasons, LeadsBack, Explains}
 use Rattle.wesl_link_reasons.specs.Searching.{world_in, task_in, IsSound, AreThrough, IsDone, AreDone, HasFirsts}
 
 module _ (m : Map) (s : Search) (sound : IsSound m s.findings) (firsts : HasFirsts m s.findings.nodes.items)
@@ -103,10 +103,6 @@ back_next fs place at j g h xs ys back here asked there e w task first last give
 pub back_ends : (fs : List Found) (place at : ℕ) (g : Found) (xs : Nodes) → IsBack fs place at xs → slice_get fs at ≡ Some g → g.asker ≡ None → LeadsBack fs place xs
 back_ends fs place at g xs back here none first at1 w task reasons =
     (g.node, subst (λ (o : Option ℕ). IsGiven w task fs g.node o) none (reasons.given at g here), back w task first g reasons.given at1 here)
-
--- what was not found is not held
-pub denied : (fs : List Found) (x : Node PathId NameId) → (IsFound fs x → ⊥) → Denies fs x
-denied fs x none w task reasons held = none (reasons.held x held)
 
 -- the chain to the node at a place, where the list is told under other names
 pub told_by : (fs nodes now : List Found) (x : Node PathId NameId) (k : ℕ) (xs : Nodes) → nodes ≡ fs → fs ≡ now → IsFoundAt fs x k → ((f : Found) → slice_get nodes k ≡ Some f → Explains nodes f.node xs)

@@ -1,5 +1,5 @@
 -- What going through a look-up keeps.
-use Rattle.std.proofs.Common.{◌≡◌, ◌⊎◌, inl, inr, ℕ, ◌<◌, ◌+◌, List, [], ◌∷◌, ◌++◌, length, length-append, slice_get, Option, Some, None, Contains, arith, subst, sym, refl, ap, ◌∙◌}
+use Rattle.std.proofs.Common.{◌≡◌, ◌⊎◌, inl, inr, ℕ, List, [], ◌∷◌, slice_get, Option, Some, None, Contains, subst, sym, refl, ap, ◌∙◌}
 use Rattle.std.proofs.lemmas.List.Elements.{Contains-push_cases, Contains-append_left}
 use Rattle.wesl_link_symbols.specs.declared.ids.PathId.{PathId}
 use Rattle.wesl_tree_base.specs.declared.ids.NameId.{NameId}
@@ -10,7 +10,6 @@ use Rattle.wesl_link_symbols.specs.declared.symbols.Symbol.{Symbol}
 use Rattle.wesl_link_symbols.specs.Keyed.{PutsKey}
 use Rattle.wesl_link_symbols.specs.Tables.{Table}
 use Rattle.wesl_link_symbols.specs.Names.{Answers}
-use Rattle.wesl_link_symbols.proofs.Lists.{contains_nil}
 use Rattle.wesl_link_symbols.proofs.Once.{once}
 use Rattle.wesl_link_reach.specs.World.{Task, IsAt, Finds, Hops, HasMet, Walk, WalksTo, LeadsTo, Followed}
 use Rattle.wesl_link_reach.specs.World.Walk.{begin, step}
@@ -36,13 +35,6 @@ puts_cases {K} old new k x (inr (fresh, e)) h = Contains-push_cases old k x (sub
 pub puts_keeps : {K : Type 0} (old new : List K) (k : K) → PutsKey old k new → (x : K) → Contains old x → Contains new x
 puts_keeps {K} old new k (inl (there, e)) x h = subst (λ (ks : List K). Contains ks x) (sym e) h
 puts_keeps {K} old new k (inr (fresh, e)) x h = subst (λ (ks : List K). Contains ks x) (sym e) (Contains-append_left old (k ∷ []) x h)
-
-pub puts_longer : {K : Type 0} (old new : List K) (k : K) → PutsKey old k new → (Contains old k → ⊥) → length old < length new
-puts_longer old new k (inl (there, e)) fresh = absurd (fresh there)
-puts_longer old new k (inr (fresh, e)) new_one =
-    let both : length new ≡ length (old ++ k ∷ []) = ap length e in
-    let sum : length (old ++ k ∷ []) ≡ length old + 1 = length-append old (k ∷ []) in
-    omega arith
 
 module _ (w : List (Table PathId NameId)) (task : Task PathId NameId) where
   abbrev Question : Type 0
@@ -182,6 +174,3 @@ module _ (w : List (Table PathId NameId)) (task : Task PathId NameId) where
     where
       no_some : (n : Question) → None ≡ Some n → ⊥
       no_some n e = cc
-
-  pub through_none : (a : List Found) (trail : List Question) (next : Option Question) → trail ≡ [] → AreThrough w a trail next
-  through_none a trail next e x held = absurd (contains_nil x (subst (λ (ls : List Question). Contains ls x) e held))

@@ -1,9 +1,8 @@
 -- Where the module of each path stands.
-use Rattle.std.proofs.Common.{◌≡◌, inl, inr, ℕ, ◌≤◌, ◌+◌, List, [], length, take, slice_get, Some, Contains, subst, sym, ap, ◌∙◌}
-use Rattle.std.proofs.lemmas.List.{take_all}
+use Rattle.std.proofs.Common.{◌≡◌, inl, inr, ℕ, ◌+◌, List, take, slice_get, Some, Contains, subst, sym, ap, ◌∙◌}
 use Rattle.wesl_link_symbols.specs.Keyed.{Puts}
 use Rattle.wesl_link_symbols.specs.Tables.{Table}
-use Rattle.wesl_link_symbols.proofs.Lists.{contains_nil, at_contains, one_at}
+use Rattle.wesl_link_symbols.proofs.Lists.{at_contains, one_at}
 use Rattle.wesl_link_reach.specs.World.{IsAt}
 use Rattle.wesl_link_reach.specs.Loading.{ArePlaced}
 use Rattle.wesl_link_reach.proofs.Growing.{turn_at, goes_on_itself}
@@ -14,12 +13,6 @@ pub record FirstPlaced {P N : Type 0} (tables : List (Table P N)) (n : ℕ) (pla
   pub indexed : (t : Table P N) → Contains (take n tables) t → (k : ℕ) × Contains places (t.path, k)
 
 module _ {P N : Type 0} (tables : List (Table P N)) where
-  pub placing_start : (places : List (P × ℕ)) → places ≡ [] → FirstPlaced tables 0 places
-  placing_start places e = record {
-    found = λ p k h. absurd (contains_nil (p, k) (subst (λ (es : List (P × ℕ)). Contains es (p, k)) e h));
-    indexed = λ t h. absurd (contains_nil t h);
-  }
-
   pub placing_more : (n : ℕ) (t : Table P N) (old fresh : List (P × ℕ)) → slice_get tables n ≡ Some t → FirstPlaced tables n old → Puts old t.path n fresh → FirstPlaced tables (n + 1) fresh
   placing_more n t old fresh at placing put = record {
     found = λ p k h. elim (put.only p k h) [
@@ -34,12 +27,6 @@ module _ {P N : Type 0} (tables : List (Table P N)) where
         | inl same ↦ (n, subst (λ (q : P). Contains fresh (q, n)) (sym same) put.has)
         | inr kept ↦ (j, kept)
       ]
-
-  pub placing_all : (n : ℕ) (places : List (P × ℕ)) → length tables ≤ n → FirstPlaced tables n places → ArePlaced tables places
-  placing_all n places past placing = record {
-    found = placing.found;
-    indexed = λ t h. placing.indexed t (subst (λ (ts : List (Table P N)). Contains ts t) (sym (take_all n tables past)) h);
-  }
 
   pub at_place : (places : List (P × ℕ)) (p : P) (k : ℕ) (t : Table P N) → ArePlaced tables places → Contains places (p, k) → slice_get tables k ≡ Some t → IsAt tables p t
   at_place places p k t placed held at =

@@ -44,9 +44,6 @@ module _ (m : Map) where
     taken = λ eager p is y takes. found_on g.found y (done.taken eager p is y takes);
   }
 
-  pub done_none : (a : Search) → AreDone m a 0
-  done_none a k less f at = absurd (omega arith)
-
   pub done_next : (a b : Search) (n : ℕ) → Grows a b → n < length a.findings.nodes.items → AreDone m a n → IsDoneAt m b n → AreDone m b (n + 1)
   done_next a b n g within done here = below_more (λ (j : ℕ). IsDoneAt m b j) n before here
     where

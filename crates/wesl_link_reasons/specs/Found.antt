@@ -14,6 +14,7 @@ use Rattle.wesl_link_reasons.specs.Reasons.{AsksFor, IsFirst, IsHeld, IsReason}
 abbrev pub IsFoundAt : List Found → Node PathId NameId → ℕ → Type 0
 IsFoundAt fs x k = (f : Found) × (slice_get fs k ≡ Some f) × (f.node ≡ x)
 
+-- the node was found
 abbrev pub IsFound : List Found → Node PathId NameId → Type 0
 IsFound fs x = (k : ℕ) × IsFoundAt fs x k
 
@@ -26,7 +27,7 @@ pub record AreIndexed (fs : List Found) (places : List (Node PathId NameId × �
 abbrev pub AreOrdered : List Found → Type 0
 AreOrdered fs = (k j : ℕ) (f : Found) → slice_get fs k ≡ Some f → f.asker ≡ Some j → j < k
 
--- what reasons keep of what was found
+-- the places tell where each node that was found stands, and who asks stands before what is asked for
 pub record AreSorted (fs : List Found) (places : List (Node PathId NameId × ℕ)) : Type 0 where
   pub indexed : AreIndexed fs places
   pub ordered : AreOrdered fs
@@ -49,10 +50,11 @@ IsKeptIn ns x = (n : NameId) × Contains ns n × (x ≡ KeptName n)
 abbrev pub IsImported : List (Import PathId NameId) → Node PathId NameId → Type 0
 IsImported is x = (i : Import PathId NameId) × Contains is i × (x ≡ Module i.path)
 
--- the symbol of the name at the path, and that of one of the declarations
+-- the symbol of the name in the module at the path; where there is no name, no node is
 abbrev pub IsNamed : PathId → Option NameId → Node PathId NameId → Type 0
 IsNamed p name x = (n : NameId) × (name ≡ Some n) × (x ≡ Item (record { path = p; name = n }))
 
+-- the symbol of one of these declarations of the module at the path; a const_assert has none
 abbrev pub IsDeclared : PathId → List (Declaration PathId NameId) → Node PathId NameId → Type 0
 IsDeclared p ds x = (d : Declaration PathId NameId) × Contains ds d × IsNamed p d.name x
 
@@ -62,6 +64,7 @@ module _ (w : List (Table PathId NameId)) (task : Task PathId NameId) where
   IsGiven fs x None = IsFirst w task x
   IsGiven fs x (Some j) = (g : Found) × (slice_get fs j ≡ Some g) × AsksFor w task g.node x
 
+  -- so it is for each node that was found
   abbrev pub AreGiven : List Found → Type 0
   AreGiven fs = (k : ℕ) (f : Found) → slice_get fs k ≡ Some f → IsGiven fs f.node f.asker
 
@@ -74,7 +77,7 @@ pub record AreReasons (w : List (Table PathId NameId)) (task : Task PathId NameI
 abbrev pub Explains : List Found → Node PathId NameId → List (Node PathId NameId) → Type 0
 Explains fs x xs = (w : List (Table PathId NameId)) (task : Task PathId NameId) → AreReasons w task fs → IsReason w task x xs
 
--- and the node is not held in it
+-- whatever link these are the reasons of, the node is not held in it
 abbrev pub Denies : List Found → Node PathId NameId → Type 0
 Denies fs x = (w : List (Table PathId NameId)) (task : Task PathId NameId) → AreReasons w task fs → IsHeld w task x → ⊥
 

@@ -21,9 +21,11 @@ use Rattle.wesl_link_reasons.specs.Found.{IsFound, AreIndexed, AreOrdered, AreGi
 
 -- ---- what is searched
 
+-- the modules of the link that is searched
 abbrev pub world_in : Map → List (Table PathId NameId)
 world_in m = m.tables.now
 
+-- what was linked: the root, the names of it that were kept, and whether all that is declared is held
 abbrev pub task_in : Map → Task PathId NameId
 task_in m = record { root = m.root; kept = m.kept.now; is_eager = m.is_eager }
 
@@ -68,13 +70,15 @@ module _ (w : List (Table PathId NameId)) where
     pub finds : (s : Symbol PathId NameId) → Finds w l s → IsFound fs (Item s)
     pub hops : (n : LookUp PathId NameId) → Hops w l n → Contains trail n ⊎ (next ≡ Some n)
 
+  -- so it is for each look-up of the trail
   abbrev pub AreThrough : List Found → List (LookUp PathId NameId) → Option (LookUp PathId NameId) → Type 0
   AreThrough fs trail next = (l : LookUp PathId NameId) → Contains trail l → IsThrough fs trail next l
 
--- the same as the search stands
+-- as the search stands: a walk of a look-up of the node at the place comes to it
 abbrev pub ComesFrom : Map → Search → ℕ → LookUp PathId NameId → Type 0
 ComesFrom m s k l = IsOnWay (world_in m) (task_in m) s.findings.nodes.items k l
 
+-- as the search stands: so it is for each look-up that it went through
 abbrev pub WentThrough : Map → Search → Option (LookUp PathId NameId) → Type 0
 WentThrough m s next = AreThrough (world_in m) s.findings.nodes.items s.trail next
 
@@ -82,7 +86,7 @@ WentThrough m s next = AreThrough (world_in m) s.findings.nodes.items s.trail ne
 abbrev pub TakesAll : Map → List Found → PathId → Type 0
 TakesAll m fs p = (b : Node PathId NameId) → TakesWith (world_in m) (task_in m) p b → IsFound fs b
 
--- where the node is a module, and the link eager
+-- where the node is a module and the link eager, all that is taken with the module was found
 abbrev pub IsTaken : Map → List Found → Node PathId NameId → Type 0
 IsTaken m fs x = m.is_eager ≡ true → (p : PathId) → x ≡ Module p → TakesAll m fs p
 
@@ -95,10 +99,11 @@ pub record IsDone (m : Map) (s : Search) (x : Node PathId NameId) : Type 0 where
   pub look_ups : (l : LookUp PathId NameId) → LooksUp (world_in m) (task_in m) x l → Contains s.trail l
   pub taken : IsTaken m s.findings.nodes.items x
 
--- the node at the place is done, and the first n are
+-- the node at the place is done
 abbrev pub IsDoneAt : Map → Search → ℕ → Type 0
 IsDoneAt m s k = (f : Found) → slice_get s.findings.nodes.items k ≡ Some f → IsDone m s f.node
 
+-- the first n nodes are done
 abbrev pub AreDone : Map → Search → ℕ → Type 0
 AreDone m s n = (k : ℕ) → k < n → IsDoneAt m s k
 

@@ -35,7 +35,7 @@ impl Drop for Reasons {
 impl Model for Reasons {
     ghost use Rattle.std.specs.Prelude.{List};
     ghost use Rattle.wesl_link_reasons.specs.declared.found.Found.{Found};
-    ghost use Rattle.wesl_link_reasons.specs.Found.{AreIndexed, AreOrdered, AreSorted};
+    ghost use Rattle.wesl_link_reasons.specs.Found.{AreOrdered, AreSorted};
 
     ghost Value = { List Found };
 

@@ -1,5 +1,5 @@
 -- What is decided.
-use Rattle.std.proofs.Common.{◌≡◌, ◌⊎◌, inl, inr, ℕ, zero, suc, ◌<◌, ◌≤◌, Bool, true, false, Option, Some, None, List, [], ◌∷◌, Contains, arith, subst, sym, refl, ap, ◌∙◌}
+use Rattle.std.proofs.Common.{◌≡◌, ◌⊎◌, inl, inr, ℕ, zero, suc, Bool, true, false, Option, Some, None, List, [], ◌∷◌, Contains, arith, subst, sym, refl, ap, ◌∙◌}
 use Rattle.wesl_cond_choices.specs.declared.place.Place.TheVariants as at
 use Rattle.wesl_cond_choices.specs.declared.place.Place.{Place}
 use Rattle.wesl_link_symbols.specs.declared.symbols.LookUp.{LookUp}
@@ -60,11 +60,6 @@ same_number zero zero = inl refl
 same_number zero (suc y) = inr (λ e. omega arith)
 same_number (suc x) zero = inr (λ e. omega arith)
 same_number (suc x) (suc y) = elim (same_number x y) [ inl e ↦ inl (ap suc e) | inr n ↦ inr (λ e. n (omega arith)) ]
-
-pub less : (x y : ℕ) → (x ≤ y) ⊎ (y < x)
-less zero y = inl (omega arith)
-less (suc x) zero = inr (omega arith)
-less (suc x) (suc y) = elim (less x y) [ inl e ↦ inl (omega arith) | inr e ↦ inr (omega arith) ]
 
 pub same_place : (a b : Place) → IsDecidable (a ≡ b)
 same_place at.Always at.Always = inl refl

@@ -2,7 +2,6 @@
 use Rattle.std.proofs.Common.{inl, inr, Option, Some, None, List, [], ◌∷◌, slice_get}
 use Rattle.std.specs.Global.{Vec}
 use Rattle.wesl_tree_names.specs.Path.{Text, Path}
-use Rattle.wesl_cond_choices.specs.Places.{together}
 use Rattle.wesl_link_symbols.specs.declared.ids.PathId.{PathId}
 use Rattle.wesl_tree_base.specs.declared.ids.NameId.{NameId}
 use Rattle.wesl_link_symbols.specs.declared.symbols.Reference.{Reference}

@@ -217,6 +217,3 @@ module _ {P N : Type 0} (w : List (Table P N)) (task : Task P N) where
 
     pub reached_decided : (s : Symbol P N) → IsDecidable (Reached w task s)
     reached_decided s = decided_by (node_decided (at_symbol s)) (along Steps Holds holds_on start (at_symbol s) tt) (reached_chain s)
-
-    pub entered_decided : (p : P) → IsDecidable (Entered w task p)
-    entered_decided p = decided_by (node_decided (at_path p)) (along Steps Holds holds_on start (at_path p) tt) (entered_chain p)

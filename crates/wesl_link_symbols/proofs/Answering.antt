@@ -1,6 +1,6 @@
 -- What a module answers, by what its imports were searched for.
 use Rattle.std.proofs.Common.{◌≡◌, ◌⊎◌, inl, inr, ℕ, ◌≤◌, length, slice_index_or, List, Option, Some, None, IfSome, IfNone, arith, subst, sym, refl, ap, ◌∙◌}
-use Rattle.wesl_link_symbols.specs.declared.symbols.Answer.TheVariants.{Declared, Next, Missing, Private, Ambiguous}
+use Rattle.wesl_link_symbols.specs.declared.symbols.Answer.TheVariants.{Declared, Next, Missing, Ambiguous}
 use Rattle.wesl_link_symbols.specs.Tables.{Place, Import, LookUp, Table}
 use Rattle.wesl_link_symbols.specs.Names.{Imports, SameTarget, IsOwn, Shows, DeclaresTo, IsOpenTo, IsAskedTo, asked_by, Answers}
 use Rattle.wesl_link_symbols.specs.Index.{Binds, IsLast}
@@ -58,9 +58,6 @@ module _ {P N : Type 0} (t : Table P N) (l : LookUp P N) where
   pub declared_alone : DeclaresTo t l → ((i : Import P N) → Imports t l.name i → IsShownAndSeen t l i → IsOwn t.path i) → Answers t l Declared
   declared_alone d own = (d, λ i seen. own i seen.0 (seen.1, seen.2))
 
-  pub declared_torn : DeclaresTo t l → ((i : Import P N) × Imports t l.name i × (IsShownAndSeen t l i × (IsOwn t.path i → ⊥))) → Answers t l Ambiguous
-  declared_torn d (i, held, (seen, other)) = inl (d, i, (held, seen.0, seen.1), other)
-
   asks_alike : (i j : Import P N) → SameTarget i j → i.from ≡ j.from → asked_by t i ≡ asked_by t j
   asks_alike i j (p, n) f =
       ap (λ (x : P). record { asker = Some t.path; path = x; name = i.item; from = i.from }) p
@@ -83,9 +80,6 @@ module _ {P N : Type 0} (t : Table P N) (l : LookUp P N) where
   asked_torn none i asked (j, held, (seen, inl differ)) = inr (inl (none, i, j, asked.0, (held, seen.0, seen.1), differ))
   asked_torn none i asked (j, held, (seen, inr (low, differ))) =
       inr (inr (none, i, j, asked, ((held, seen.0, seen.1), λ k p. (let least : i.order ≤ k.order = asked.1 k p in omega arith)), λ e. differ (ap (λ (x : LookUp P N). x.from) e)))
-
-  pub closed_private : (DeclaresTo t l → ⊥) → ((i : Import P N) → IsOpenTo t l i → ⊥) → ((i : Import P N) × Imports t l.name i × (Shows l.asker t.path i → ⊥)) → Answers t l Private
-  closed_private none closed (i, held, hidden) = (none, closed, (i, (held, hidden)))
 
   pub closed_missing : (DeclaresTo t l → ⊥) → ((i : Import P N) → IsOpenTo t l i → ⊥) → ((i : Import P N) → Imports t l.name i → Shows l.asker t.path i) → Answers t l Missing
   closed_missing none closed shown = (none, closed, λ i hidden. hidden.1 (shown i hidden.0))

@@ -7,17 +7,9 @@ use Rattle.wesl_link_symbols.specs.Keyed.{Puts}
 use Rattle.wesl_link_symbols.specs.Tables.{Table}
 use Rattle.wesl_link_symbols.specs.Names.{Declares}
 use Rattle.wesl_link_symbols.specs.Index.{IsNamed, IsKeyed, HasAt, IsLast, Chains}
-use Rattle.wesl_link_symbols.proofs.Lists.{contains_nil, one_at, at_push, at_contains, contains_at, read_at}
+use Rattle.wesl_link_symbols.proofs.Lists.{one_at, at_push, at_contains, contains_at, read_at}
 
 module _ {X K : Type 0} (key : X → K) where
-  pub chains_start : (ds : List X) (latest : List (K × ℕ)) (earlier : List (Option ℕ)) → latest ≡ [] → earlier ≡ [] → Chains key ds 0 latest earlier
-  chains_start ds latest earlier e f = record {
-    latest_only = λ name i h. absurd (contains_nil (name, i) (subst (λ (es : List (K × ℕ)). Contains es (name, i)) e h));
-    latest_all = λ name i b h. absurd (omega arith);
-    earlier_is = λ name i o g h. absurd (let b = slice_get_within earlier i o g in let l : length earlier ≡ 0 = ap length f in omega arith);
-    earlier_len = ap length f;
-  }
-
   -- the last below n is the last below n + 1 where the element at n has another key
   last_more : (ds : List X) (n : ℕ) (d : X) (name : K) (i : ℕ) → slice_get ds n ≡ Some d → (name ≡ key d → ⊥) → IsLast (IsKeyed key name) ds n (Some i)
       → IsLast (IsKeyed key name) ds (n + 1) (Some i)
@@ -82,11 +74,6 @@ module _ {X K : Type 0} (key : X → K) where
   earlier_at ds latest earlier name i o chains (x, at, named) is =
       let b : i < length ds = slice_get_within ds i x at in
       let l : length earlier ≡ length ds = chains.earlier_len in chains.earlier_is name i o (read_at earlier earlier i o refl (omega arith) is) (x, at, named)
-
-  pub chains_all : (xs ys : List X) (i : ℕ) (latest : List (K × ℕ)) (earlier : List (Option ℕ)) → xs ≡ ys → i ≡ length xs → Chains key xs i latest earlier
-      → Chains key ys (length ys) latest earlier
-  chains_all xs ys i latest earlier e b chains =
-      subst (λ (zs : List X). Chains key zs (length zs) latest earlier) e (subst (λ (n : ℕ). Chains key xs n latest earlier) b chains)
 
 module _ {P N : Type 0} where
   -- ---- the names of a module

@@ -2,12 +2,15 @@
 use Rattle.std.specs.Prelude.{◌≡◌, ℕ, ◌<◌, length, slice_get, Option, Some, None, List, Contains}
 use Rattle.wesl_link_symbols.specs.Tables.{Import, Declaration}
 
+-- the declaration binds that name, and none where none is given
 abbrev pub IsNamed : {P N : Type 0} → Option N → Declaration P N → Type 0
 IsNamed name d = d.name ≡ name
 
+-- the import binds that name
 abbrev pub Binds : {P N : Type 0} → N → Import P N → Type 0
 Binds n i = i.bound ≡ n
 
+-- there is an element at that index, and Q holds of it
 abbrev pub HasAt : {X : Type 0} → (X → Type 0) → List X → ℕ → Type 0
 HasAt {X} Q xs i = (x : X) × (slice_get xs i ≡ Some x) × Q x
 
@@ -27,9 +30,11 @@ pub record Chains {X K : Type 0} (key : X → K) (xs : List X) (n : ℕ) (latest
   pub earlier_is : (k : K) (i : ℕ) (o : Option ℕ) → slice_get earlier i ≡ Some o → HasAt (IsKeyed key k) xs i → IsLast (IsKeyed key k) xs i o
   pub earlier_len : length earlier ≡ n
 
+-- the name that a declaration binds, if it binds one
 abbrev pub name_of : {P N : Type 0} → Declaration P N → Option N
 name_of d = d.name
 
+-- the name that an import binds
 abbrev pub bound_of : {P N : Type 0} → Import P N → N
 bound_of i = i.bound
 

@@ -13,5 +13,6 @@ pub record IsBlank (x : Indexed) : Type 0 where
   pub latest_import : x.latest_import.entries ≡ []
   pub earlier_import : x.earlier_import.items ≡ []
 
+-- the indexes are those of these imports and declarations
 abbrev pub AreIndexes : List (Import PathId NameId) → List (Declaration PathId NameId) → Indexed → Type 0
 AreIndexes imports declarations x = IsIndexed imports declarations x.latest.entries x.earlier.items x.latest_import.entries x.earlier_import.items

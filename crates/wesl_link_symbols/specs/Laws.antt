@@ -11,6 +11,8 @@ AnswersOnce P N = (t : Table P N) (l : LookUp P N) (a b : Answer P N) → Answer
 
 -- what a module answers where each name of it has one target
 module _ {P N : Type 0} where
+  -- It declares the name; else an import of the name that is shown to who asks is asked further; else it has no import of the
+  -- name; else it has some, and none is shown. No name stands for two things.
   abbrev pub AnswersOfOne : Table P N → LookUp P N → Answer P N → Type 0
   AnswersOfOne t l Declared = Declares t l.name
   AnswersOfOne t l (Next n) = (Declares t l.name → ⊥) × (i : Import P N) × Imports t l.name i × Shows l.asker t.path i × (n ≡ asked_by t i)

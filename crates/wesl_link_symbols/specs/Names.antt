@@ -6,12 +6,15 @@ use Rattle.wesl_cond_choices.specs.Places.{together}
 use Rattle.wesl_link_symbols.specs.Tables.{Place, Import, Reference, LookUp, Answer, Declaration, Table}
 
 module _ {P N : Type 0} where
+  -- the module has a declaration of the name
   abbrev pub Declares : Table P N → N → Type 0
   Declares t n = (d : Declaration P N) × Contains t.declarations d × (d.name ≡ Some n)
 
+  -- the import is one of the module's, and binds the name
   abbrev pub Imports : Table P N → N → Import P N → Type 0
   Imports t n i = Contains t.imports i × (i.bound ≡ n)
 
+  -- both imports aim at the same item of the same module
   abbrev pub SameTarget : Import P N → Import P N → Type 0
   SameTarget i j = (i.path ≡ j.path) × (i.item ≡ j.item)
 
@@ -19,10 +22,11 @@ module _ {P N : Type 0} where
   abbrev pub IsOwn : P → Import P N → Type 0
   IsOwn p i = (i.path ≡ p) × (i.item ≡ i.bound)
 
-  -- what a reference asks for, and an import
+  -- what a reference asks for: the name in the module of its path, asked by the module in which it stands
   abbrev pub asked_for : Table P N → Reference P N → LookUp P N
   asked_for t r = record { asker = Some t.path; path = r.path; name = r.name; from = r.from }
 
+  -- what an import asks for: its item in the module that it imports from, asked by its own module
   abbrev pub asked_by : Table P N → Import P N → LookUp P N
   asked_by t i = record { asker = Some t.path; path = i.path; name = i.item; from = i.from }
 
@@ -46,13 +50,15 @@ module _ {P N : Type 0} where
   abbrev pub Sees : Table P N → Place → Place → Type 0
   Sees t from place = (place ≡ Always) ⊎ (together t.alive from place ≡ true)
 
+  -- the module has a declaration of the name that is seen from where the look-up asks
   abbrev pub DeclaresTo : Table P N → LookUp P N → Type 0
   DeclaresTo t l = (d : Declaration P N) × Contains t.declarations d × (d.name ≡ Some l.name) × Sees t l.from d.place
 
-  -- the imports that a look-up may follow, and those that are not shown to it, alive or dead
+  -- the import is one of the name that the look-up may follow: it is shown to who asks, and seen from where the look-up asks
   abbrev pub IsOpenTo : Table P N → LookUp P N → Import P N → Type 0
   IsOpenTo t l i = Imports t l.name i × Shows l.asker t.path i × Sees t l.from i.place
 
+  -- the import is one of the name that is not shown to who asks, alive or dead
   abbrev pub IsHiddenFrom : Table P N → LookUp P N → Import P N → Type 0
   IsHiddenFrom t l i = Imports t l.name i × (Shows l.asker t.path i → ⊥)
 

@@ -12,10 +12,13 @@ module _ {P N : Type 0} where
   abbrev pub IsShownAndSeen : Table P N → LookUp P N → Import P N → Type 0
   IsShownAndSeen t l i = Shows l.asker t.path i × Sees t l.from i.place
 
-  -- beside the first, which is asked, the second makes the name stand for two things: it has another target, or asks from another place
+  -- Beside the first, which is asked, the second makes the name stand for two things: it has another target, or it is asked too
+  -- and asks from another place.
   abbrev pub IsRival : Import P N → Import P N → Type 0
   IsRival i j = (SameTarget i j → ⊥) ⊎ ((j.order ≤ i.order) × (i.from ≡ j.from → ⊥))
 
+  -- Beside the first, which is asked, the second leaves the name one thing: it has the same target, and asks from the same
+  -- place or is of a higher order, so that it is not asked.
   abbrev pub IsNoRival : Import P N → Import P N → Type 0
   IsNoRival i j = SameTarget i j × (j.order ≤ i.order → i.from ≡ j.from)
 

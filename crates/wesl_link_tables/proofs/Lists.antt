@@ -1,7 +1,6 @@
 -- Lists that grow by one element at a time.
 use Rattle.std.proofs.Common.{◌≡◌, ℕ, zero, suc, ◌≤◌, ◌<◌, ◌+◌, Some, List, [], ◌∷◌, ◌++◌, map, length, take, get_or, arith, refl, sym, ap, ◌∙◌, append_assoc, append-nil}
 use Rattle.std.specs.Prelude.{slice_get}
-use Rattle.std.proofs.lemmas.List.{map-append}
 use Rattle.wesl_link_tables.specs.Numbering.{IsLonger, AreRelated}
 
 pub longer_itself : {X : Type 0} (xs : List X) → IsLonger xs xs
@@ -29,14 +28,6 @@ taken_all [] zero b = refl
 taken_all [] (suc n) b = refl
 taken_all (x ∷ xs) zero b = absurd (omega arith)
 taken_all (x ∷ xs) (suc n) b = ap (λ l. x ∷ l) (taken_all xs n (omega arith))
-
--- what is made of each element as they are gone over
-module _ {X Y Z : Type 0} (g : Z → Y) (f : X → Y) (xs : List X) (i : ℕ) where
-  pub mapped_next : (x : X) (old new : List Z) (z : Z) → i < length xs → x ≡ get_or xs i x → map g old ≡ map f (take i xs) → new ≡ old ++ z ∷ [] → g z ≡ f x → map g new ≡ map f (take (i + 1) xs)
-  mapped_next x old new z b at so_far new_is e =
-      ap (map g) new_is
-      ∙ (map-append g old (z ∷ [])
-      ∙ (ap (λ l. l ++ g z ∷ []) so_far ∙ (ap (λ y. map f (take i xs) ++ y ∷ []) e ∙ sym (ap (map f) (take_next xs i x b at) ∙ map-append f (take i xs) (x ∷ [])))))
 
 module _ {X Y : Type 0} (R S : X → Y → Type 0) (more : (x : X) (y : Y) → R x y → S x y) where
   pub related_more : (xs : List X) (ys : List Y) → AreRelated R xs ys → AreRelated S xs ys

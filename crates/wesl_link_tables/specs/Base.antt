@@ -11,6 +11,7 @@ abbrev pub target_path : Target → Path
 target_path (Written p) = path_view p.now
 target_path (Made p) = path_view p
 
+-- where a value of the code says that a part of a statement leads
 abbrev pub base_view : Base → imports.Base
 base_view Unset = imports.unset
 base_view Nowhere = imports.nowhere

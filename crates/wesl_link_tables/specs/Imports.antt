@@ -8,31 +8,37 @@ use Rattle.wesl_cond_choices.specs.declared.place.Place.TheVariants as places
 use Rattle.wesl_link_symbols.specs.declared.symbols.Import.{Import}
 
 module _ {I : Type 0} where
-  -- the children of the first tree, and the trees after it
+  -- the children of the first tree, and none where there is no tree
   abbrev pub below : ForestOf I → ForestOf I
   below end = end
   below (tree l children others) = children
 
+  -- the trees after the first, and none where there is no tree
   abbrev pub after : ForestOf I → ForestOf I
   after end = end
   after (tree l children others) = others
 
+  -- whether a node is an item of an import, with or without a new name
   abbrev pub is_item : LabelOf I → Bool
   is_item (kind import_item) = true
   is_item _ = false
 
+  -- whether a node is an entry of a collection
   abbrev pub is_entry : LabelOf I → Bool
   is_entry (kind import_entry) = true
   is_entry _ = false
 
+  -- whether an attribute is `@publish`
   abbrev pub is_publish : LabelOf I → Bool
   is_publish (kind publish) = true
   is_publish _ = false
 
+  -- the texts of a label, such as the components of an entry; a label of another sort has none
   abbrev pub label_texts : LabelOf I → List Text
   label_texts (texts names) = names
   label_texts _ = []
 
+  -- the path of a label, if it has one
   abbrev pub label_path : LabelOf I → Option Path
   label_path (path p) = Some p
   label_path _ = None
@@ -57,6 +63,7 @@ entered unset (first ∷ names) = to (record { origin = from_package first; comp
 entered nowhere names = nowhere
 entered (to p) names = to (extend p names)
 
+-- where a statement with this path leads in the module at `own`; one without a path leaves it to its entries
 abbrev pub base_of : Path → Option Path → Base
 base_of own None = unset
 base_of own (Some p) = to (join own p)
@@ -67,7 +74,8 @@ module _ {I : Type 0} (stands : Place) where
   abbrev pub import_of : Bool → Path → I → I → Import Path I
   import_of published p item bound = record { bound = bound; path = p; item = item; published = published; place = stands; from = places.Always; order = 2 }
 
-  -- An item with a target is an import; its identifiers are its own name and, where it has one, its new name, which is then bound.
+  -- An item with a target is an import; its identifiers are its own name and, where it has one, its new name, which is then
+  -- bound.
   abbrev pub item_imports : Bool → Base → List I → List (Import Path I)
   item_imports published (to p) (item ∷ []) = import_of published p item item ∷ []
   item_imports published (to p) (item ∷ bound ∷ _) = import_of published p item bound ∷ []
@@ -98,6 +106,7 @@ module _ {I : Type 0} where
   imports_from own j [] = []
   imports_from own j (t ∷ ts) = statement_imports own (places.Import j) (below t.children) ++ imports_from own (suc j) ts
 
+  -- the imports with a target of these statements of the module at `own`, in document order
   abbrev pub all_imports : Path → ForestOf I → List (Import Path I)
   all_imports own statements = imports_from own 0 (trees statements)
 

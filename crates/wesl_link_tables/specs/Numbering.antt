@@ -13,19 +13,22 @@ pub use Rattle.wesl_link_split.specs.Numbering.{AreRelated, SameImport, SameRefe
 
 -- ---- tables over paths `P` and names `N`, and over `Q` and `M`, that say the same
 
+-- both are there and related, or neither is there
 abbrev pub IsRelatedOption : {X Y : Type 0} → (X → Y → Type 0) → Option X → Option Y → Type 0
 IsRelatedOption R None None = Unit {0}
 IsRelatedOption R (Some x) (Some y) = R x y
 IsRelatedOption R _ _ = ⊥
 
 module _ {P N Q M : Type 0} (R : P → Q → Type 0) (S : N → M → Type 0) where
+  -- both declarations say the same: their names, what they ask for and what is unclear in them are related, at the same place
   pub record SameDeclaration (d : Declaration P N) (e : Declaration Q M) : Type 0 where
     pub name : IsRelatedOption S d.name e.name
     pub place : d.place ≡ e.place
     pub references : AreRelated (SameReference R S) d.references e.references
     pub unclear : AreRelated S d.unclear e.unclear
 
-  -- what choices of flags keep is the same in what it answers of two places
+  -- Both tables say the same: their paths are related, and imports and declarations say the same one by one. Of any two
+  -- places, the one has a choice of flags that keeps both exactly where the other has one.
   pub record SameTable (t : Table P N) (u : Table Q M) : Type 0 where
     pub path : R t.path u.path
     pub imports : AreRelated (SameImport R S) t.imports u.imports
@@ -53,11 +56,14 @@ abbrev pub IsNumbered : Numbering → Table PathId NameId → Table Path Text �
 IsNumbered numbering t u = SameTable (PathAt numbering) (NameAt numbering) t u
 
 module _ (numbering : Numbering) where
+  -- the imports have these numbers where the others, each at its place, have names and paths
   abbrev pub AreNumberedImports : List (Import PathId NameId) → List (Import Path Text) → Type 0
   AreNumberedImports is js = AreRelated (SameImport (PathAt numbering) (NameAt numbering)) is js
 
+  -- these are the numbers of the names, in their order
   abbrev pub AreNumberedNames : List NameId → List Text → Type 0
   AreNumberedNames ns xs = AreRelated (NameAt numbering) ns xs
 
+  -- the declarations have these numbers where the others, each at its place, have names and paths
   abbrev pub AreNumberedDeclarations : List (Declaration PathId NameId) → List (Declaration Path Text) → Type 0
   AreNumberedDeclarations ds es = AreRelated (SameDeclaration (PathAt numbering) (NameAt numbering)) ds es

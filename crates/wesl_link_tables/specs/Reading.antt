@@ -34,15 +34,19 @@ use Rattle.wesl_link_tables.specs.declared.reading.Reading.{Reading}
 
 -- ---- the module
 
+-- the unit of the module, with its table of names
 abbrev pub view_in : Reading → UnitView
 view_in r = unit_view r.unit.now
 
+-- the unit of the module, as it is spelled
 abbrev pub unit_in : Reading → UnitOf Text
 unit_in r = spelled (view_in r)
 
+-- where the module stands
 abbrev pub own_path : Reading → Path
 own_path r = path_view r.path.now
 
+-- what the names of the module stand for
 abbrev pub scope_in : Reading → Scope Path Text
 scope_in r = scope_of (own_path r) (unit_in r)
 
@@ -52,34 +56,40 @@ use_read s here of_declaration x key = declares x
 use_read s here of_word x key = refers x []
 use_read s here of_meaning x key = meant s here x key
 
+-- what a name is at a place of it whose identifier is read in this sense
 abbrev pub used_as : Reading → Place → Sense → Text → Use Path Text
 used_as r here s x = use_read (scope_in r) here (manner_in s) x (meaning_read (view_in r) r.senses.now s)
 
--- a name without a path, a name under a path, and one under a path that begins with the name of these imports
+-- what a name without a path is at a place of it
 abbrev pub plain_in : Reading → Place → Text → Use Path Text
 plain_in r here x = plain_use (scope_in r) here x
 
+-- what a name under a path is there
 abbrev pub aimed_in : Reading → Place → ModulePath → Text → Use Path Text
 aimed_in r here p x = path_use (scope_in r) here (path_view p) x
 
+-- what a name is there under a path that begins with the name of these imports, of which the first counts; without imports the
+-- path is joined to the module's
 abbrev pub under_in : Reading → Place → List (Binder Path Text) → ModulePath → Text → Use Path Text
 under_in r here bs p x = refers x (map (under texts (scope_in r) x here) (aims (own_path r) bs (path_view p)))
 
--- what all its identifiers are, and the one at a place
+-- what its identifiers are, in document order
 abbrev pub all_uses : Reading → List (Use Path Text)
 all_uses r = map (use_of (scope_in r) (occurrences (unit_in r))) (occurrences (unit_in r))
 
+-- what its identifier with this number is, counted in document order; beyond the last a local name without text
 abbrev pub use_at : Reading → ℕ → Use Path Text
 use_at r i = get_or (all_uses r) i (local 0 [])
 
--- the elements from one place to another
+-- the elements from one place up to another, which is left out
 abbrev pub span : {X : Type 0} → ℕ → ℕ → List X → List X
 span from to xs = drop from (take to xs)
 
--- what the identifiers from one place to another ask for, and the names that stand for two things there
+-- what the identifiers from one place up to another ask for
 abbrev pub references_in : Reading → ℕ → ℕ → List (Reference Path Text)
 references_in r from to = flat_map asked (span from to (all_uses r))
 
+-- the names that stand for two things at the identifiers from one place up to another
 abbrev pub unclear_names : Reading → ℕ → ℕ → List Text
 unclear_names r from to = flat_map unclear_in (span from to (all_uses r))
 
@@ -105,10 +115,11 @@ abbrev pub mark_of : NameId → List (Reference PathId NameId) → Mark
 mark_of n [] = marks.Free n
 mark_of n (r ∷ rs) = marks.Asks r
 
--- references are added that say this by numbers, and names
+-- references are added that say these by numbers
 abbrev pub AddsReferences : Numbering → List (Reference PathId NameId) → List (Reference PathId NameId) → List (Reference Path Text) → Type 0
 AddsReferences nb old new more = (added : List (Reference PathId NameId)) × (new ≡ old ++ added) × AreNumberedReferences nb added more
 
+-- the numbers of these names are added
 abbrev pub AddsNames : Numbering → List NameId → List NameId → List Text → Type 0
 AddsNames nb old new more = (added : List NameId) × (new ≡ old ++ added) × AreNumberedNames nb added more
 

@@ -11,6 +11,7 @@ use Rattle.wesl_link_tables.specs.Imports.{imports}
 use Rattle.wesl_link_tables.specs.Walks.{import_view}
 use Rattle.wesl_link_tables.specs.declared.imports.Target.{Target}
 
+-- an import under other names: the name that it binds and its item are replaced, and its path stays
 abbrev pub respell_import : {I J : Type 0} → (I → J) → Import Path I → Import Path J
 respell_import f i = record { bound = f i.bound; path = i.path; item = f i.item; published = i.published; place = i.place; from = i.from; order = i.order }
 
@@ -18,6 +19,7 @@ respell_import f i = record { bound = f i.bound; path = i.path; item = f i.item;
 abbrev pub spelled_import : List Text → Import Target Ident → Import Path Text
 spelled_import names i = respell_import (name_in names) (import_view i)
 
+-- imports of the code, spelled by a table of names
 abbrev pub spelled_imports : List Text → List (Import Target Ident) → List (Import Path Text)
 spelled_imports names is = map (spelled_import names) is
 

@@ -14,15 +14,17 @@ use Rattle.wesl_link_tables.specs.Split.{binders_by, alive_if, crowded_if}
 use Rattle.wesl_link_tables.specs.Uses.{Use, texts, asked, unclear_in, use_of}
 
 module _ {I : Type 0} where
+  -- the name that the label binds, if it is that of a binder
   abbrev pub bound_name : LabelOf I → Option I
   bound_name (ident binder x) = Some x
   bound_name _ = None
 
-  -- the first of the fields that binds a name
+  -- the first name, and where there is none the second
   abbrev pub or_later : Option I → Option I → Option I
   or_later (Some x) later = Some x
   or_later None later = later
 
+  -- the name that the first of these fields binds which binds one; none where none does
   abbrev pub declared_name : ForestOf I → Option I
   declared_name end = None
   declared_name (tree l children others) = or_later (bound_name l) (declared_name others)

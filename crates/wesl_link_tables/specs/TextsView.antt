@@ -6,12 +6,14 @@ use Rattle.wesl_link_tables.specs.declared.texts.NameTexts.{NameTexts}
 use Rattle.wesl_link_tables.specs.declared.texts.NumberTexts.{NumberTexts}
 use Rattle.wesl_link_tables.specs.declared.texts.PathTexts.{PathTexts}
 
--- the names in the order of their numbers, and the paths
+-- the names in the order of their numbers
 abbrev pub names_told : NameTexts → List Text
 names_told t = map string_bytes t.texts.items
 
+-- the paths in the order of their numbers
 abbrev pub paths_told : PathTexts → List Path
 paths_told t = map path_view t.paths.items
 
+-- the names and the paths that the numbers of a link stand for
 abbrev pub numbering_of_texts : NumberTexts → Numbering
 numbering_of_texts t = record { names = names_told t.names; paths = paths_told t.paths }

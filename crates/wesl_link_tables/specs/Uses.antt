@@ -37,6 +37,8 @@ module _ (s : Scope Path Text) (here : Place) where
   meant n (free m) = plain_use s here n
   meant n (qualified p m) = path_use s here p n
 
+  -- What an identifier is by how it stands: the name of a global declaration declares it, a word asks for nothing, and any
+  -- other name is what plain scoping says of it.
   abbrev pub use_as : Standing → Text → Key → Use Path Text
   use_as module_name n key = declares n
   use_as word n key = refers n []

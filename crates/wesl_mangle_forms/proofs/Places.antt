@@ -85,10 +85,6 @@ some-more names ps (suc k) j n rest all h e i =
     let q : k ≡ j = omega arith in
     ap (λ (m : ℕ). option_map (onto_names (names ++ n ∷ [])) (read_names m rest)) (sym q) ∙ sym (some-step names (read_name ps) k n rest e) ∙ i
 
-abbrev left_of : Option (Text × List Text) → ℕ
-left_of None = 0
-left_of (Some x) = length x.1
-
 short-step : (k : ℕ) (ps : List Text) (o : Option (Text × List Text)) → ((rest : List Text) → length rest < k → read_names k rest ≡ None) → ((n : Text) (rest : List Text) → o ≡ Some (n, rest) → length rest < k) → (o >>= after_name k) ≡ None
 short-step k ps None ih h = refl
 short-step k ps (Some x) ih h = ap (λ (r : Option (List Text × List Text)). r >>= λ y. Some (x.0 ∷ y.0, y.1)) (ih x.1 (h x.0 x.1 refl))

@@ -1,7 +1,6 @@
 -- Lists of texts with a mark between each two, and the texts of lists of nodes.
 use Rattle.std.proofs.Common.{◌≡◌, ◌<◌, ◌≤◌, ◌+◌, ℕ, zero, suc, nat_lt, Bool, true, false, Option, Some, None, rules, tests, ◌&&◌, List, [], ◌∷◌, ◌++◌, length, get_or, map, take, drop, refl, ap, sym, ◌∙◌, arith, append_assoc, add-one, drop-cons, subst}
 use mathlib.Core.List.{map-map}
-use Rattle.std.proofs.lemmas.Bool.{false≢true}
 use Rattle.std.proofs.lemmas.List.{take_all, take_more, map-append, append-nil, length-map, length-take}
 use Rattle.std.proofs.lemmas.List.Concat.{flat_map-append}
 use Rattle.std.specs.List.{join_by, flat_map, list_all}
@@ -9,7 +8,7 @@ use Rattle.std.specs.Global.{Box, Vec}
 use Rattle.wesl_tree_names.specs.Path.{Text}
 use Rattle.wesl_tree_names.specs.declared.names.Ident.{Ident}
 use Rattle.wesl_tree_names.specs.declared.path.ModulePath.{ModulePath}
-use Rattle.wesl_tree_syntax.specs.Tree.{Label, Forest, Tree, end, tree, kind, at, ident, text, texts, truth, unary, binary, assignment, space, access, path, list, literal, type_or_identifier, reference, type_expression, branch, before, template_argument, forest_of, forest_below, tree_below}
+use Rattle.wesl_tree_syntax.specs.Tree.{Label, Forest, Tree, end, tree, kind, list, literal, type_or_identifier, reference, type_expression, branch, before, template_argument, forest_of, forest_below, tree_below}
 use Rattle.wesl_tree_syntax.specs.View.{argument_view, type_view, listed, optional, boxed_path, ident_tree, literal_tree, expression_view, expression_tree, expression_step, call_step, argument_step, type_step}
 use Rattle.wesl_tree_syntax.specs.declared.expression.Expression.{Expression, the_lemmas}
 use Rattle.wesl_tree_syntax.specs.declared.expression.Expression as made
@@ -117,14 +116,6 @@ below-ident : (n : ℕ) (p : Option (Box ModulePath)) (i : Ident) (o : Option (V
 below-ident n None i o h = (and-both _ _ (and-both _ _ h).0).0
 below-ident n (Some p) i o h = (and-both _ _ (and-both _ _ h).0).0
 
-below-arguments : (n : ℕ) (p : Option (Box ModulePath)) (i : Ident) (v : Vec TemplateArg) → tree_below n (type_tree p i (Some v)) ≡ true → tree_below n (listed argument_view list v) ≡ true
-below-arguments n None i v h = (and-both _ _ (and-both _ _ (and-both _ _ h).1).0).0
-below-arguments n (Some p) i v h = (and-both _ _ (and-both _ _ (and-both _ _ h).1).0).0
-
-normal-arguments : (p : Option (Box ModulePath)) (i : Ident) (v : Vec TemplateArg) → is_normal_type (type_tree p i (Some v)) ≡ true → is_normal_type (listed argument_view list v) ≡ true
-normal-arguments None i v h = (and-both _ _ (and-both _ _ h).0).0
-normal-arguments (Some p) i v h = (and-both _ _ (and-both _ _ h).0).0
-
 text-alone : (names : List Text) (p : Option (Box ModulePath)) (i : Ident) → get_or names i.0 [] ≡ tree_text names (type_tree p i None)
 text-alone names None i = sym (append-nil _)
 text-alone names (Some p) i = sym (append-nil _)
@@ -142,49 +133,10 @@ module _ (t : TypeExpression) where
   type-text names none = rw (view_type t, none) (text-alone names (out-TypeExpression t).path (out-TypeExpression t).ident)
 
   module _ (v : Vec TemplateArg) (some : (out-TypeExpression t).template_args ≡ Some v) where
-    pub type-below : (n : ℕ) → tree_below n (type_view t) ≡ true → tree_below n (listed argument_view list v) ≡ true
-    type-below n h =
-        below-arguments n (out-TypeExpression t).path (out-TypeExpression t).ident v
-        (sym (ap (tree_below n) (view_type t ∙ ap (type_tree (out-TypeExpression t).path (out-TypeExpression t).ident) some)) ∙ h)
-
-    pub type-normal : is_normal_type (type_view t) ≡ true → is_normal_type (listed argument_view list v) ≡ true
-    type-normal h =
-        normal-arguments (out-TypeExpression t).path (out-TypeExpression t).ident v
-        (sym (ap is_normal_type (view_type t ∙ ap (type_tree (out-TypeExpression t).path (out-TypeExpression t).ident) some)) ∙ h)
-
     pub type-texts : (names : List Text) → get_or names (out-TypeExpression t).ident.0 [] ++ tree_text names (listed argument_view list v) ≡ tree_text names (type_view t)
     type-texts names =
         text-with names (out-TypeExpression t).path (out-TypeExpression t).ident v
         ∙ sym (ap (tree_text names) (view_type t ∙ ap (type_tree (out-TypeExpression t).path (out-TypeExpression t).ident) some))
-
--- One argument.
-
-kind-normal : (l : Label) (f : Forest) → is_literal_or_type l ≡ true → is_normal (tree l f end) ≡ (is_normal f && true)
-kind-normal (kind k) f h = refl
-kind-normal (at k i j) f h = absurd (false≢true h)
-kind-normal (ident r i) f h = refl
-kind-normal (text x) f h = refl
-kind-normal (texts x) f h = refl
-kind-normal (truth x) f h = refl
-kind-normal (unary x) f h = refl
-kind-normal (binary x) f h = refl
-kind-normal (assignment x) f h = refl
-kind-normal (space x) f h = refl
-kind-normal (access x) f h = refl
-kind-normal (path x) f h = refl
-
-both-are : (a b : Bool) → a ≡ true → b ≡ true → (a && b) ≡ true
-both-are a b h k = rw (h, k) refl
-
-pub argument-below : (n : ℕ) (a : TemplateArg) → tree_below n (argument_view a) ≡ true → tree_below n (expression_view (out-TemplateArg a).expression.node) ≡ true
-argument-below n a h = (and-both _ _ (and-both _ _ (sym (ap (tree_below n) (view_argument a)) ∙ h)).0).0
-
-pub argument-normal : (a : TemplateArg) → is_normal (argument_view a).children ≡ true
-    → (is_literal_or_type (expression_view (out-TemplateArg a).expression.node).label && is_normal (expression_view (out-TemplateArg a).expression.node).children) ≡ true
-argument-normal a h =
-    let e = expression_view (out-TemplateArg a).expression.node in
-    let g = and-both (is_literal_or_type e.label) _ (sym (ap (λ (t : Tree). is_normal t.children) (view_argument a)) ∙ h) in
-    both-are _ _ g.0 (and-both (is_normal e.children) true (sym (kind-normal e.label e.children g.0) ∙ (and-both (is_normal (tree e.label e.children end)) true g.1).0)).0
 
 -- What an argument may be.
 
@@ -197,23 +149,12 @@ view_inner t = search (rules, the_lemmas)
 pub literal-text : (names : List Text) (e : Expression) (l : Literal) → e ≡ made.Literal l → tree_text names (literal_tree l) ≡ tree_text names (expression_view e)
 literal-text names e l is = sym (ap (tree_text names) (ap expression_view is ∙ view_literal l))
 
-is-type : (u : Tree) → u.label ≡ kind type_expression → is_normal (tree u.label u.children end) ≡ true → is_normal_type u ≡ true
-is-type u e h = (and-both (is_normal u.children) true (sym (ap (λ (l : Label). is_normal (tree l u.children end)) e) ∙ h)).0
-
 module _ (e : Expression) (t : TypeExpression) (is : e ≡ made.TypeOrIdentifier t) where
   inner : expression_view e ≡ branch type_or_identifier (type_view t ∷ [])
   inner = ap expression_view is ∙ view_inner t
 
   pub inner-text : (names : List Text) → tree_text names (type_view t) ≡ tree_text names (expression_view e)
   inner-text names = sym (ap (tree_text names) inner)
-
-  pub inner-below : (n : ℕ) → tree_below n (expression_view e) ≡ true → tree_below n (type_view t) ≡ true
-  inner-below n h = (and-both (tree_below n (type_view t)) true (sym (ap (tree_below n) inner) ∙ h)).0
-
-  pub inner-normal : (is_literal_or_type (expression_view e).label && is_normal (expression_view e).children) ≡ true → is_normal_type (type_view t) ≡ true
-  inner-normal h =
-      is-type (type_view t) (ap (λ (u : Tree). u.label) (view_type t))
-      (sym (ap (λ (u : Tree). is_literal_or_type u.label && is_normal u.children) inner) ∙ h)
 
 -- Whether types are normal.
 

@@ -62,9 +62,6 @@ escaped-more n h = more_parts (parts_of n) h
 
 -- one more name after an underscore
 module _ {A : Type 0} (g : A → Text) (f : Text → List Text) where
-  pub written : List Text → List A → List Text
-  written xs items = xs ++ flat_map f (map g items)
-
   pub written-more : (some : (n : Text) → 0 < length (f n)) (xs : List Text) (items : List A) (i : ℕ) (a d : A) → 0 < length xs → i < length items → a ≡ get_or items i d
       → from_pieces (xs ++ flat_map f (map g (take i items))) ++ 95 ∷ from_pieces (f (g a)) ≡ from_pieces (xs ++ flat_map f (map g (take (i + 1) items)))
   written-more some xs items i a d z l e =

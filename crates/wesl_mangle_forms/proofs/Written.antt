@@ -1,12 +1,8 @@
 -- Texts that are written one after another.
-use Rattle.std.proofs.Common.{◌≡◌, [], ◌++◌, ap, sym, ◌∙◌, append_assoc, string_bytes}
-use Rattle.std.proofs.lemmas.List.{append-nil}
+use Rattle.std.proofs.Common.{◌≡◌, ◌++◌, ap, ◌∙◌, append_assoc, string_bytes}
 use Rattle.wesl_tree_names.specs.Path.{Text}
 use Rattle.wesl_mangle_forms.specs.Written.{Adds, Says}
 use Rattle.wesl_mangle_forms.specs.declared.writer.Writer.{Writer}
-
-pub nothing : {w : Writer} → Adds w w []
-nothing {w} = record { added = λ _. sym (append-nil (string_bytes w.text)); noted = λ k. k }
 
 -- one text after another
 pub then : {a b c : Writer} {s t : Text} → Adds a b s → Adds b c t → Adds a c (s ++ t)

@@ -10,20 +10,23 @@ use lib.Chars.{codes}
 use Rattle.wesl_tree_names.specs.Path.{Text, Origin, absolute, relative, from_package, Path}
 
 infixl 10 ◌>>=◌
+-- what is read on from what was read; where nothing was, nothing is
 abbrev pub ◌>>=◌ : {A B : Type 0} → Option A → (A → Option B) → Option B
 o >>= f = option_and_then f o
 
--- a text cut at each underscore, or at each slash
+-- a text cut at each underscore
 abbrev pub pieces_of : Text → List Text
 pieces_of = slice_split (λ c. c == 95)
 
+-- a text cut at each slash
 abbrev pub parts_of : Text → List Text
 parts_of = slice_split (λ c. c == 47)
 
--- the pieces with an underscore between each two, the parts with a slash
+-- the pieces with an underscore between each two
 abbrev pub from_pieces : List Text → Text
 from_pieces = join_with_byte 95
 
+-- the parts with a slash between each two
 abbrev pub from_parts : List Text → Text
 from_parts = join_with_byte 47
 
@@ -35,6 +38,7 @@ told [] = []
 told (p ∷ []) = p ∷ []
 told (p ∷ q ∷ ps) = [] ∷ (decimal (length (q ∷ ps)) ++ p) ∷ q ∷ ps
 
+-- the pieces of a name without slashes, with that number before them where it has underscores
 abbrev pub escaped_part : Text → List Text
 escaped_part n = told (pieces_of n)
 
@@ -44,9 +48,11 @@ escaped_parts [] = []
 escaped_parts (p ∷ []) = escaped_part p
 escaped_parts (p ∷ q ∷ ps) = codes "import" ∷ decimal (length (p ∷ q ∷ ps)) ∷ flat_map escaped_part (p ∷ q ∷ ps)
 
+-- the pieces of a name, by the parts between its slashes
 abbrev pub escaped : Text → List Text
 escaped n = escaped_parts (parts_of n)
 
+-- the pieces of an origin: `package`, `self` for no level up, `super` once for each level, or those of a package's name
 abbrev pub escaped_origin : Origin → List Text
 escaped_origin absolute = codes "package" ∷ []
 escaped_origin (relative zero) = codes "self" ∷ []
@@ -94,6 +100,7 @@ read_all_names (suc most) (p ∷ ps) = do
   ns ← read_all_names most x.1
   Some (x.0 ∷ ns)
 
+-- one or more ASCII digits, and nothing else
 abbrev pub is_number : Text → Bool
 is_number q = not (length q == 0) && all_ascii_digits q
 
@@ -104,9 +111,12 @@ read_import (q ∷ ps) = cond (is_number q) (do
   x ← read_names (digits_value 10 q) ps
   Some (from_package (from_parts x.0), x.1)) None
 
+-- whether it is the word `super`
 abbrev pub is_super : Text → Bool
 is_super n = bytes_eq n (codes "super")
 
+-- an origin: `package`, `self`, a run of `super` as the number of levels, `import` with a number and so many names, or else
+-- one name, which is a package's; of no pieces none is read
 abbrev pub read_origin : List Text → Option (Origin × List Text)
 read_origin [] = None
 read_origin (w ∷ ps) =
@@ -129,11 +139,13 @@ unescaped ps = do
   ns ← read_all_names (length x.1) x.1
   item_below x.0 ns
 
+-- the item that a name in the escape form stands for, if it has that form
 abbrev pub unescape : Text → Option (Path × Text)
 unescape t = unescaped (pieces_of t)
 
 -- Where reading gives back what was written.
 
+-- a word that stands for an origin or before the parts of a package's name: `package`, `self`, `super` or `import`
 abbrev pub is_word : Text → Bool
 is_word n = bytes_eq n (codes "package") || (bytes_eq n (codes "self") || (is_super n || bytes_eq n (codes "import")))
 
@@ -142,10 +154,12 @@ abbrev pub is_plain : Text → Bool
 is_plain [] = false
 is_plain (c ∷ cs) = not (is_ascii_digit c) && (not (list_any (λ b. b == 47) (c ∷ cs)) && not (is_word (c ∷ cs)))
 
+-- whether each part of a package's name is plain; any other origin passes
 abbrev pub is_plain_origin : Origin → Bool
 is_plain_origin absolute = true
 is_plain_origin (relative n) = true
 is_plain_origin (from_package n) = list_all is_plain (parts_of n)
 
+-- whether all names are plain: each part of a package's name, each component, and the item
 abbrev pub is_reversible : Path → Text → Bool
 is_reversible p i = is_plain_origin p.origin && (list_all is_plain p.components && is_plain i)

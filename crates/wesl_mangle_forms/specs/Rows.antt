@@ -10,6 +10,7 @@ use Rattle.wesl_mangle_forms.specs.TypeText.{unicode_variant}
 use Rattle.wesl_tree_syntax.specs.Tree.{Tree, forest_of, leaf, branch, kind, at, ident, text, binary, reference, expression_node, template_argument, type_expression, type_or_identifier, literal, absent, present, list}
 use Rattle.wesl_tree_syntax.specs.declared.expression.BinaryOperator.TheVariants.{Addition}
 
+-- what the rows are made of: a path, and the item `item`
 abbrev pub path : Origin → List Text → Path
 path o ns = record { origin = o; components = ns }
 
@@ -20,6 +21,7 @@ item = codes "item"
 abbrev pub WrittenAs : Path → Text → Text → Type 0
 WrittenAs p i t = (escape p i ≡ t) × (unescape t ≡ Some (p, i))
 
+-- items written in the escape form and read back, texts that are read alone, and whether names are plain
 pub record EscapeRows : Type 0 where
   pub digits_in_name : WrittenAs (path absolute []) (codes "textures_3d") (codes "package__1textures_3d")
   pub outer_underscores : WrittenAs (path absolute (codes "_a_b__c___" ∷ [])) item (codes "package__7_a_b__c____item")
@@ -48,10 +50,12 @@ pub record EscapeRows : Type 0 where
   pub digit_first : is_reversible (path absolute []) (codes "3a") ≡ false
   pub slash_in_package : is_reversible (path (from_package (codes "a/b")) []) (codes "x") ≡ true
 
+-- a text as its bytes in UTF-8
 abbrev pub utf8 : String → Text
 utf8 t = encodes (codes t)
 
--- an array of the type numbered 0 and of this size, where `array` is the number 1
+-- types for the rows: an expression as a template argument, the type numbered 0, an array of it with this size, where
+-- `array` is the number 1, a literal of this text, a sum, and what `f` with such an array of `f32` is written as
 abbrev pub argument : Tree → Tree
 argument e = branch template_argument (record { label = at expression_node 0 0; children = forest_of (e ∷ []) } ∷ [])
 
@@ -74,6 +78,7 @@ sum a b = record {
 abbrev pub variant : Tree → Option Text
 variant size = unicode_variant (codes "f32" ∷ codes "array" ∷ []) (codes "f") (array_of size ∷ [])
 
+-- the same of the Unicode form, and what items with types are written as
 pub record UnicodeRows : Type 0 where
   pub two_up : (unicode (path (relative 2) []) item ≡ utf8 "superːːsuperːːitem") × (from_unicode (utf8 "superːːsuperːːitem") ≡ Some (path (relative 2) [], item))
   pub root : (unicode (path absolute []) item ≡ utf8 "packageːːitem") × (from_unicode (utf8 "packageːːitem") ≡ Some (path absolute [], item))

@@ -4,13 +4,15 @@ use Rattle.std.specs.List.{join_by, list_all}
 use Rattle.wesl_tree_names.specs.Path.{Text}
 use Rattle.wesl_tree_syntax.specs.Tree.{Label, Forest, Tree, end, tree, kind, at, ident, text, truth, literal, type_or_identifier, type_expression, list}
 
--- U+1438, U+1433 and U+02CF
+-- U+1438, the opening bracket
 abbrev pub opening : Text
 opening = 0xe1 ∷ 0x90 ∷ 0xb8 ∷ []
 
+-- U+1433, the closing bracket
 abbrev pub closing : Text
 closing = 0xe1 ∷ 0x90 ∷ 0xb3 ∷ []
 
+-- U+02CF, which stands between each two texts in brackets
 abbrev pub between : Text
 between = 0xcb ∷ 0x8f ∷ []
 
@@ -34,18 +36,22 @@ node_text names (kind type_expression) (path ∷ name ∷ arguments ∷ []) = na
 node_text names l (t ∷ []) = t
 node_text names l ts = []
 
+-- what each of some trees is written as
 abbrev pub texts_in : List Text → Forest → List Text
 texts_in names end = []
 texts_in names (tree l children others) = node_text names l (texts_in names children) ∷ texts_in names others
 
+-- what a tree is written as
 abbrev pub tree_text : List Text → Tree → Text
 tree_text names t = node_text names t.label (texts_in names t.children)
 
+-- whether an expression is a literal or a type
 abbrev pub is_literal_or_type : Label → Bool
 is_literal_or_type (kind literal) = true
 is_literal_or_type (kind type_or_identifier) = true
 is_literal_or_type _ = false
 
+-- whether the first tree is a literal or a type; where there is none, it is not
 abbrev pub begins_normal : Forest → Bool
 begins_normal end = false
 begins_normal (tree l children others) = is_literal_or_type l
@@ -56,6 +62,7 @@ is_normal end = true
 is_normal (tree (at k start stop) children others) = begins_normal children && (is_normal children && is_normal others)
 is_normal (tree l children others) = is_normal children && is_normal others
 
+-- whether each template argument in a type, at any depth, is a literal or a type
 abbrev pub is_normal_type : Tree → Bool
 is_normal_type t = is_normal t.children
 

@@ -8,19 +8,23 @@ use Rattle.wesl_tree_names.specs.declared.path.PathOrigin.{PathOrigin}
 use Rattle.wesl_mangle_forms.specs.Escape.{item_below}
 use Rattle.wesl_mangle_forms.specs.Items.{item_view}
 
+-- texts that are lent
 abbrev pub texts : List (Bor Text) → List Text
 texts = map (λ x. x.now)
 
+-- texts that are held
 abbrev pub names_view : Vec (String Global) Global → List Text
 names_view v = map string_bytes v.items
 
--- what was read, and the pieces left after so many
+-- a name that was read, and the pieces left after so many
 abbrev pub name_before : List Text → String Global × ℕ → Text × List Text
 name_before ps x = (string_bytes x.0, drop x.1 ps)
 
+-- the same of several names
 abbrev pub names_before : List Text → Vec (String Global) Global × ℕ → List Text × List Text
 names_before ps x = (names_view x.0, drop x.1 ps)
 
+-- the same of an origin
 abbrev pub origin_before : List Text → PathOrigin × ℕ → Origin × List Text
 origin_before ps x = (origin_view x.0, drop x.1 ps)
 

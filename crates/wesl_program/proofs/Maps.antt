@@ -1,5 +1,5 @@
 -- The object of a map, as it is written.
-use Rattle.std.proofs.Common.{◌≡◌, ℕ, ◌+◌, ◌<◌, ◌≤◌, List, [], ◌∷◌, ◌++◌, Bool, Bor, length, drop, get_or, map, refl, ap, sym, ◌∙◌}
+use Rattle.std.proofs.Common.{◌≡◌, ℕ, ◌+◌, ◌<◌, ◌≤◌, List, [], ◌∷◌, ◌++◌, Bool, Bor, length, drop, get_or, map, ap, sym, ◌∙◌}
 use Rattle.std.proofs.lemmas.List.{append_assoc, drop_all, drop_more}
 use Rattle.json.specs.Token.{Token, end_object, key}
 use Rattle.json.specs.Tree.{json_tokens, members_tokens}
@@ -7,7 +7,7 @@ use Rattle.serde_json.specs.Data.{Data}
 use Rattle.serde_json.specs.Written.{members_outline, outline}
 use Rattle.wesl_tree_names.specs.Path.{Text}
 use Rattle.wesl_tree_names.specs.declared.path.ModulePath.{ModulePath}
-use Rattle.wesl_source_map_entries.specs.Records.{Item, Items, SameItems}
+use Rattle.wesl_source_map_entries.specs.Records.{Items, SameItems}
 use Rattle.wesl_tree_syntax.specs.Unit.{UnitView}
 use Rattle.wesl_json_form.specs.Units.{written_as}
 use Rattle.wesl_program_bundle.specs.Bundle.{Bundle}

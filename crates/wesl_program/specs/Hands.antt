@@ -23,13 +23,15 @@ virtual_module = codes "virtual module"
 abbrev pub own_found : (Path → Option Data) → Path → Result Data Text
 own_found own p = ok_or (own p) virtual_module
 
+-- the value of the unit at a path whose origin is given: in a named package what the package has at the components of the path,
+-- and with any other origin that of the bundle's own module at the path
 abbrev pub found_from : (Text → List Text → Result Data Text) → (Path → Option Data) → Origin → Path → Result Data Text
 found_from in_package own (from_package name) p = in_package name p.components
 found_from in_package own absolute p = own_found own p
 found_from in_package own (relative n) p = own_found own p
 
--- The value of the unit at a path: where the path begins in a named package, that of the package's module there, and else that of
--- the bundle's own module there. Where there is none, what is said of that.
+-- The value of the unit at a path: where the path begins in a named package, that of the package's module there, and else that
+-- of the bundle's own module there. Where there is none, what is said of that.
 abbrev pub found_by : (Text → List Text → Result Data Text) → (Path → Option Data) → Path → Result Data Text
 found_by in_package own p = found_from in_package own p.origin p
 

@@ -25,12 +25,14 @@ use Rattle.wesl_program.specs.Validity.{IsValidUnder, RefusesBundle}
 abbrev pub line_of : Data → Text
 line_of d = compact_text d ++ 10 ∷ []
 
+-- a list of texts as the items of a JSON array, each of them a string
 abbrev pub texts_value : List Text → Items
 texts_value [] = no_items
 texts_value (s ∷ ss) = item (string s) (texts_value ss)
 
 -- ---- faults
 
+-- the members of the line of a fault that tells no place: the arguments at `args`, and the name at `fault`
 abbrev pub fault_members : Fault → Members
 fault_members f = member (codes "args") (array (texts_value f.arguments)) (member (codes "fault") (string f.named) no_members)
 
@@ -52,12 +54,15 @@ told_value f p = object (with_span p.span (with_home p.home (fault_members f)))
 abbrev pub fault_line : Fault → Text
 fault_line f = line_of (told_value f nowhere)
 
+-- the fault that memory was refused
 abbrev pub memory : Fault
 memory = fault (codes "Memory") []
 
+-- the fault of bytes that are no JSON
 abbrev pub not_json : Fault
 not_json = fault (codes "NotJson") []
 
+-- the fault of a value that is no bundle, with a place at which it is none
 abbrev pub bad_bundle : Text → Fault
 bad_bundle place = fault (codes "BadBundle") (place ∷ [])
 
@@ -124,6 +129,7 @@ IsFaultLine bytes line =
 abbrev pub item_value : Item → Data
 item_value i = array (texts_value (to_text i.0 ∷ i.1 ∷ []))
 
+-- the members of a map: at each name the item for which it stands, in the order of the list
 abbrev pub map_members : List (Text × Item) → Members
 map_members [] = no_members
 map_members (e ∷ es) = member e.0 (item_value e.1) (map_members es)
@@ -132,6 +138,7 @@ map_members (e ∷ es) = member e.0 (item_value e.1) (map_members es)
 abbrev pub IsMapOf : Record → Data → Type 0
 IsMapOf recorded map = (listing : List (Text × Item)) × IsListing recorded listing × (map ≡ object (map_members listing))
 
+-- the object of an answer: at `clash` whether names clash, at `map` what they stand for, and at `unit` the linked unit
 abbrev pub answer_value : Bool → Data → Data → Data
 answer_value clash map unit = object (member (codes "clash") (boolean clash) (member (codes "map") map (member (codes "unit") unit no_members)))
 
@@ -144,8 +151,8 @@ answer_beginning false = codes "{\"clash\":false,\"map\":"
 abbrev pub SaysClash : Bool → UnitView → Type 0
 SaysClash clash u = (clash ≡ false) ↔ IsFaithful u
 
--- the value of a unit to which the bundle's modules link, in the form that it asks for, which is valid under its built-in names,
--- whether its names clash, and the value of what is recorded of them
+-- the value of a unit to which the bundle's modules link, in the form that it asks for, which is valid under its built-in
+-- names, whether its names clash, and the value of what is recorded of them
 abbrev pub IsAnswerOf : Bundle → Bool → Data → Data → Type 0
 IsAnswerOf b clash map unit =
     (w : List Module) × (u : UnitView) × LinksTo b w u × IsValidUnder b.builtins u

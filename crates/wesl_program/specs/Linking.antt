@@ -26,10 +26,11 @@ module _ (b : Bundle) where
   abbrev pub refused : Path → ResolveError → Type 0
   refused p e = IsRefused p (found b.packages b.modules p) e
 
-  -- the same, as the features leave it
+  -- the unit at a path, as the features leave it; without features no condition is judged
   abbrev pub handed_left : Option Features → Path → UnitOf Text → Type 0
   handed_left = hands_left handed refused
 
+  -- the path is refused so, or a fault of a condition stands in the unit there
   abbrev pub refused_left : Option Features → Path → ResolveError → Type 0
   refused_left = refuses_left handed refused
 

@@ -10,24 +10,27 @@ pub record Where : Type 0 where
   pub home : Option Text
   pub span : Option (ℕ × ℕ)
 
+-- no place: neither a module nor a span is told
 abbrev pub nowhere : Where
 nowhere = record { home = None; span = None }
 
+-- whether the name of the fault is one of these
 abbrev pub is_named : List Text → Fault → Bool
 is_named names f = list_any (λ name. bytes_eq name f.named) names
 
--- the faults of conditions
+-- whether a place in a source may be told of the fault: it is one of a condition
 abbrev pub has_span : Fault → Bool
 has_span f = is_named (codes "InvalidFeatureFlag" ∷ codes "UnexpectedFeatureFlag" ∷ codes "InvalidExpression" ∷ codes "NoPrecedingIf" ∷ codes "DuplicateIf" ∷ []) f
 
--- these, a value that is no tree, and the faults that one module has by its names
+-- whether a module may be told of the fault: it is one of a condition, of a value that is no tree, or of a name that has two
+-- targets, lacks or is not published
 abbrev pub has_home : Fault → Bool
 has_home f = has_span f || is_named (codes "BadTree" ∷ codes "DuplicateSymbol" ∷ codes "MissingDecl" ∷ codes "Private" ∷ []) f
 
--- a fault of another kind tells no module, or no place in one
+-- a module is told only of a fault that may have one, and a place in its source only of a fault that may have that
 abbrev pub IsPlaceOf : Fault → Where → Type 0
 IsPlaceOf f p = (has_home f ≡ false → p.home ≡ None) × (has_span f ≡ false → p.span ≡ None)
 
--- none where places are not told
+-- no place is told, or places are told and this one may be told of the fault
 abbrev pub MayStand : Bool → Fault → Where → Type 0
 MayStand is_placed f p = (p ≡ nowhere) ⊎ ((is_placed ≡ true) × IsPlaceOf f p)

@@ -14,10 +14,12 @@ abbrev pub IfPlace : BundleError → (Text → Type 0) → Type 0
 IfPlace (At s) P = P (string_bytes s)
 IfPlace Memory P = Unit {0}
 
+-- the place that the fault tells; want of memory tells none
 abbrev pub place_of : BundleError → Option Text
 place_of (At s) = Some (string_bytes s)
 place_of Memory = None
 
+-- the fault is want of memory, or tells a place at which the value breaks the form
 abbrev pub Locates : Form → Data → BundleError → Type 0
 Locates f d e = IfPlace e (IsBroken f d)
 
@@ -27,6 +29,7 @@ IsMemberBroken f d place =
     ((f.is_required ≡ true) × (get f.named d ≡ None) × (place ≡ []))
     ⊎ ((v : Data) × (path : List Part) × (get f.named d ≡ Some v) × (place ≡ pointer_text (key f.named ∷ path)) × BreaksAt f.form path v)
 
+-- the fault is want of memory, or tells a place, counted from the object, at which the member is broken or lacks
 abbrev pub LocatesMember : Field → Data → BundleError → Type 0
 LocatesMember f d e = IfPlace e (IsMemberBroken f d)
 

@@ -12,6 +12,7 @@ pub record Builtins : Type 0 where
   pub functions : List Text
   pub constructors : List Text
 
+-- the keys that the object at `builtins` may have
 abbrev pub builtins_keys : List Text
 builtins_keys = codes "names" ∷ codes "functions" ∷ codes "constructors" ∷ []
 
@@ -23,5 +24,6 @@ builtins_of_members d = do
   constructors ← or_empty as_str (get (codes "constructors") d)
   Some (record { names = names; functions = functions; constructors = constructors })
 
+-- the names that a value calls built in: an object that has no other keys, each absent or with a list of texts
 abbrev pub builtins_in : Data → Option Builtins
 builtins_in d = if has_only builtins_keys d then builtins_of_members d else None

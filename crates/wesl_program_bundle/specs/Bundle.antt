@@ -44,6 +44,7 @@ pub record Bundle : Type 0 where
 
 -- ---- which values are bundles
 
+-- the mangler that a word names: `escape`, `unicode` or `none`; no other text names one
 abbrev pub naming_of : Text → Option Naming
 naming_of s = if bytes_eq s (codes "escape") then Some naming.Escape else (if bytes_eq s (codes "unicode") then Some naming.Unicode else (if bytes_eq s (codes "none") then Some naming.Own else None))
 
@@ -51,6 +52,7 @@ naming_of s = if bytes_eq s (codes "escape") then Some naming.Escape else (if by
 abbrev pub naming_in : Data → Option Naming
 naming_in d = option_and_then naming_of (as_str d)
 
+-- a number of at most 32 bits; a greater one is refused
 abbrev pub below_limit : ℕ → Option ℕ
 below_limit n = if nat_lt n 4294967296 then Some n else None
 
@@ -66,24 +68,29 @@ spans_in_form n = if n == 1 then Some false else (if n == 2 then Some true else 
 abbrev pub form_in : Data → Option Bool
 form_in d = option_and_then spans_in_form (option_and_then as_u64 (as_number d))
 
+-- the keys that a module in `modules` may have
 abbrev pub module_keys : List Text
 module_keys = codes "path" ∷ codes "unit" ∷ []
 
+-- the module that members say: `path` and `unit` have to be there, the path is not relative, and the unit is any value
 abbrev pub module_of_members : Data → Option Module
 module_of_members d = do
   path ← required_in path_in (codes "path") d
   unit ← get (codes "unit") d
   Some (record { path = path; unit = unit })
 
+-- the module that a value is: an object that has no other keys
 abbrev pub module_in : Data → Option Module
 module_in d = if has_only module_keys d then module_of_members d else None
 
+-- the keys that a bundle may have
 abbrev pub bundle_keys : List Text
 bundle_keys =
     codes "root" ∷ codes "keep" ∷ codes "modules" ∷ codes "packages" ∷ codes "features"
     ∷ codes "mangler" ∷ codes "mangle_root" ∷ codes "eager" ∷ codes "max_modules" ∷ codes "form" ∷ codes "builtins" ∷ []
 
--- the escape form, the root's names as they are, only what is reached, a thousand modules, and form 1, where nothing else is said
+-- the options that members say: where nothing else is said the escape form, the root's names as they are, only what is reached,
+-- a thousand modules, and form 1
 abbrev pub options_in : Data → Option Options
 options_in d = do
   mangler ← or_default naming.Escape naming_in (get (codes "mangler") d)
@@ -93,6 +100,8 @@ options_in d = do
   spans ← or_default false form_in (get (codes "form") d)
   Some (record { mangler = mangler; mangle_root = mangle_root; eager = eager; max_modules = max_modules; spans = spans })
 
+-- The bundle that members say: `root` has to be there. An absent list is empty; without `features` no condition is judged, and
+-- without `builtins` nothing is validated.
 abbrev pub bundle_of_members : Data → Option Bundle
 bundle_of_members d = do
   root ← required_in path_in (codes "root") d
@@ -104,6 +113,7 @@ bundle_of_members d = do
   builtins ← optional_in builtins_in (get (codes "builtins") d)
   Some (record { root = root; keep = keep; modules = modules; packages = packages; features = features; options = options; builtins = builtins })
 
+-- the bundle that a value is: an object that has no other keys; any numbers may still stand in its units
 abbrev pub bundle_in : Data → Option Bundle
 bundle_in d = if has_only bundle_keys d then bundle_of_members d else None
 

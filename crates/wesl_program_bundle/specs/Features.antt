@@ -28,6 +28,7 @@ listed_answer name (f ∷ fs) = if bytes_eq name f.named then Some f.answer else
 abbrev pub answer_for : Features → Text → Feature
 answer_for features name = unwrap_or (listed_answer name features.flags) features.default
 
+-- the answer that a word names: `enable`, `disable`, `keep` or `error`; no other text names one
 abbrev pub feature_of : Text → Option Feature
 feature_of s =
     if bytes_eq s (codes "enable") then Some feature.Enable else (if bytes_eq s (codes "disable") then Some feature.Disable
@@ -45,9 +46,11 @@ flags_of (member k d ms) = do
   rest ← flags_of ms
   Some (record { named = k; answer = answer } ∷ rest)
 
+-- the flags that an object lists, each key with a word as its answer; a value that is no object is refused
 abbrev pub flags_in : Data → Option (List Flag)
 flags_in d = option_and_then flags_of (as_object d)
 
+-- the keys that the object at `features` may have
 abbrev pub features_keys : List Text
 features_keys = codes "default" ∷ codes "flags" ∷ []
 
@@ -58,5 +61,6 @@ features_of_members d = do
   flags ← or_default [] flags_in (get (codes "flags") d)
   Some (record { default = default; flags = flags })
 
+-- the answers for flags that a value says: an object that has no other keys; the empty object disables every flag
 abbrev pub features_in : Data → Option Features
 features_in d = if has_only features_keys d then features_of_members d else None

@@ -11,6 +11,8 @@ use Rattle.wesl_json_form.specs.Keys.{has_only}
 use Rattle.wesl_program_bundle.specs.Features.{feature_in}
 use Rattle.wesl_program_bundle.specs.Bundle.{naming_in, limit_in, form_in}
 
+-- What is asked of a value in a bundle: to be a bundle, a path, a nonempty name, any text, a module and so on. Any value passes
+-- as a unit. `IsWrong` says which values fail.
 pub data Form : Type 0 where
   a_bundle : Form
   a_path : Form
@@ -31,17 +33,21 @@ pub data Form : Type 0 where
   -- any keys
   an_object_of : Form → Form
 
+-- a member that an object may have: its key, whether it has to be there, and the form of its value
 pub record Field : Type 0 where
   pub named : Text
   pub is_required : Bool
   pub form : Form
 
+-- a member that has to be there
 abbrev pub required : Text → Form → Field
 required k f = record { named = k; is_required = true; form = f }
 
+-- a member that may be absent
 abbrev pub optional : Text → Form → Field
 optional k f = record { named = k; is_required = false; form = f }
 
+-- the members that an object of the form may have; a form of other values, or of objects with any keys, has none
 abbrev pub fields : Form → List Field
 fields a_bundle =
     required (codes "root") a_path
@@ -65,10 +71,12 @@ fields some_features = optional (codes "default") a_feature ∷ optional (codes 
 fields some_builtins = optional (codes "names") (a_list_of a_text) ∷ optional (codes "functions") (a_list_of a_text) ∷ optional (codes "constructors") (a_list_of a_text) ∷ []
 fields _ = []
 
+-- the first of these members that has the key, if one has it
 abbrev pub find_field : Text → List Field → Option Field
 find_field k [] = None
 find_field k (f ∷ fs) = if bytes_eq k f.named then Some f else find_field k fs
 
+-- the form of the value at a key; none where the form has no member of that key
 abbrev pub form_at : Form → Text → Option Form
 form_at f k = option_map (λ x. x.form) (find_field k (fields f))
 
@@ -98,7 +106,7 @@ IsWrong some_builtins d = IsWrongObject (fields some_builtins) d
 IsWrong (a_list_of f) d = as_array d ≡ None
 IsWrong (an_object_of f) d = as_object d ≡ None
 
--- the form of the member at a key
+-- g is the form of the value at the key; in an object of any keys all values have one form
 abbrev pub HasFormAt : Form → Text → Form → Type 0
 HasFormAt f k g = (form_at f k ≡ Some g) ⊎ (f ≡ an_object_of g)
 

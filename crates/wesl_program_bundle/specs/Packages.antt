@@ -18,6 +18,7 @@ pub record PackageModule : Type 0 where
   pub unit : Data
   pub modules : PackageModules
 
+-- a module, and then the others
 abbrev pub module_before : PackageModule → PackageModules → PackageModules
 module_before m ms = with_module m.name m.unit m.modules ms
 
@@ -31,14 +32,17 @@ pub record Package : Type 0 where
   pub root : PackageModule
   pub dependencies : Packages
 
+-- a package, and then the others
 abbrev pub package_before : Package → Packages → Packages
 package_before p ps = with_package p.root p.dependencies ps
 
 -- ---- which values are packages
 
+-- the keys that a module of a package may have
 abbrev pub package_module_keys : List Text
 package_module_keys = codes "name" ∷ codes "unit" ∷ codes "modules" ∷ []
 
+-- the keys that a package may have
 abbrev pub package_keys : List Text
 package_keys = codes "name" ∷ codes "unit" ∷ codes "modules" ∷ codes "dependencies" ∷ []
 
@@ -51,6 +55,7 @@ module_with d below = do
   Some (record { name = name; unit = unit; modules = modules })
 
 abbrev mutual
+  -- the module that a value is: an object that has no other keys, in which the name and the unit have to be there
   pub package_module_in : Data → Option PackageModule
   package_module_in null = None
   package_module_in (boolean b) = None
@@ -64,6 +69,7 @@ abbrev mutual
   modules_below no_members = Some no_modules
   modules_below (member k d ms) = if bytes_eq (codes "modules") k then package_modules_in d else modules_below ms
 
+  -- the modules that a list says, in its order; a value that is no list is refused
   pub package_modules_in : Data → Option PackageModules
   package_modules_in null = None
   package_modules_in (boolean b) = None
@@ -72,6 +78,7 @@ abbrev mutual
   package_modules_in (array ds) = each_module ds
   package_modules_in (object ms) = None
 
+  -- the modules that the items of a list are; where one is no module, the list is refused
   pub each_module : Items → Option PackageModules
   each_module no_items = Some no_modules
   each_module (item d ds) = do
@@ -87,6 +94,7 @@ package_with root below = do
   Some (record { root = r; dependencies = ds })
 
 abbrev mutual
+  -- the package that a value is: an object that has no other keys, whose name and unit have to be there and are the root's
   pub package_in : Data → Option Package
   package_in null = None
   package_in (boolean b) = None
@@ -100,6 +108,7 @@ abbrev mutual
   dependencies_below no_members = Some no_packages
   dependencies_below (member k d ms) = if bytes_eq (codes "dependencies") k then packages_in d else dependencies_below ms
 
+  -- the packages that a list says, in its order; a value that is no list is refused
   pub packages_in : Data → Option Packages
   packages_in null = None
   packages_in (boolean b) = None
@@ -108,6 +117,7 @@ abbrev mutual
   packages_in (array ds) = each_package ds
   packages_in (object ms) = None
 
+  -- the packages that the items of a list are; where one is no package, the list is refused
   pub each_package : Items → Option Packages
   each_package no_items = Some no_packages
   each_package (item d ds) = do

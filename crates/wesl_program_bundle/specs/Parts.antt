@@ -44,6 +44,7 @@ abbrev pub text_in : Bool → Data → Option Text
 text_in true d = as_str d
 text_in false d = name_in d
 
+-- the form of a text: any text where it may be empty, and else a nonempty one
 abbrev pub text_form : Bool → Form
 text_form true = a_text
 text_form false = a_name
@@ -57,6 +58,7 @@ IsModuleMemberBroken d place =
     ⊎ IsMemberBroken (required (codes "unit") a_unit) d place
     ⊎ IsMemberBroken (optional (codes "modules") (a_list_of a_package_module)) d place
 
+-- the fault is want of memory, or tells a place, counted from the module, at which a member of it is broken or lacks
 abbrev pub LocatesModuleMember : Data → BundleError → Type 0
 LocatesModuleMember d e = IfPlace e (IsModuleMemberBroken d)
 

@@ -6,9 +6,11 @@ use Rattle.wesl_tree_names.specs.Path.{Text, Path, is_relative}
 use Rattle.wesl_tree_names.specs.PathText.{parse}
 
 infixl 10 ◌>>=◌
+-- what is read on from what was read; where nothing was, nothing is
 abbrev pub ◌>>=◌ : {A B : Type 0} → Option A → (A → Option B) → Option B
 o >>= f = option_and_then f o
 
+-- a text, if it is not empty
 abbrev pub nonempty : Text → Option Text
 nonempty [] = None
 nonempty (x ∷ xs) = Some (x ∷ xs)
@@ -17,6 +19,7 @@ nonempty (x ∷ xs) = Some (x ∷ xs)
 abbrev pub name_in : Data → Option Text
 name_in d = option_and_then nonempty (as_str d)
 
+-- a path, if it begins with neither `self` nor `super`
 abbrev pub unless_relative : Path → Option Path
 unless_relative p = if is_relative p then None else Some p
 
@@ -32,6 +35,7 @@ items_in reading (item d ds) = do
   xs ← items_in reading ds
   Some (x ∷ xs)
 
+-- what is read of each item of a list, in order; refused where the value is no list, or an item is refused
 abbrev pub list_in : {A : Type 0} → (Data → Option A) → Data → Option (List A)
 list_in reading d = option_and_then (items_in reading) (as_array d)
 

@@ -1,14 +1,10 @@
 -- A value that is added under a name, if none has it.
-use Rattle.std.proofs.Common.{◌≡◌, Bool, true, false, true≢false, if◌then◌else◌, Option, Some, None, refl, sym, subst, bytes_eq}
+use Rattle.std.proofs.Common.{◌≡◌, Bool, true, false, true≢false, if◌then◌else◌, Option, Some, None, refl, subst, bytes_eq}
 use Rattle.std.specs.Option.{is_some, option_or}
 use Rattle.std.proofs.lemmas.Slice.Eq.{bytes_eq-Decides}
 use Rattle.wesl_tree_names.specs.Path.{Text}
 
 module _ {X : Type 0} where
-  some-stays : (o p : Option X) → is_some o ≡ true → o ≡ option_or o p
-  some-stays None p h = absurd (true≢false (sym h))
-  some-stays (Some y) p h = refl
-
   none-gives : (o p : Option X) → is_some o ≡ false → p ≡ option_or o p
   none-gives None p h = refl
   none-gives (Some y) p h = absurd (true≢false h)
@@ -17,15 +13,7 @@ module _ {X : Type 0} where
   nothing-more None = refl
   nothing-more (Some y) = refl
 
-  -- the name is there: at each name is what was there
-  pub is-there : (g : Text → Option X) (k n : Text) (x : X) → is_some (g k) ≡ true → g n ≡ option_or (g n) (if bytes_eq k n then Some x else None)
-  is-there g k n x there = by (bytes_eq k n) refl
-    where
-      by : (b : Bool) → bytes_eq k n ≡ b → g n ≡ option_or (g n) (if b then Some x else None)
-      by true is = some-stays (g n) (Some x) (subst (λ m. is_some (g m) ≡ true) ((bytes_eq-Decides k n).0 is) there)
-      by false is = nothing-more (g n)
-
-  -- it is not: the value is there now
+  -- the name is not there: the value is there now
   pub is-added : (g : Text → Option X) (k n : Text) (x : X) → is_some (g k) ≡ false → (if bytes_eq k n then Some x else g n) ≡ option_or (g n) (if bytes_eq k n then Some x else None)
   is-added g k n x absent = by (bytes_eq k n) refl
     where

@@ -1,9 +1,8 @@
 -- Where the parts of a name and the components of a path lead, a step at a time.
-use Rattle.std.proofs.Common.{◌≡◌, List, [], ◌∷◌, Some, None, Ok, Err, length, Bor, String, map, string_bytes, refl, sym, ap, ◌∙◌, arith}
+use Rattle.std.proofs.Common.{◌≡◌, List, [], ◌∷◌, Some, None, Err, length, Bor, String, map, string_bytes, refl, sym, ap, ◌∙◌, arith}
 use Rattle.std.specs.declared.alloc.Global.{Global}
 use Rattle.std.specs.HashMap.{HashMap, get_by_text}
 use Rattle.std.specs.List.{IsFirstAndRest}
-use Rattle.wesl_json_form.specs.View.{borrowed_view}
 use Rattle.wesl_tree_base.specs.Borrowed.{texts}
 use Rattle.wesl_tree_names.specs.Path.{Text}
 use Rattle.wesl_resolve_base.specs.Packages.{no_dependency, no_package, no_submodule}
@@ -13,10 +12,6 @@ use Rattle.wesl_program_packages.specs.declared.held.HeldModule.{HeldModule, out
 use Rattle.wesl_program_packages.specs.declared.held.HeldPackage.{HeldPackage, out-HeldPackage}
 
 -- ---- components
-
-pub below-all : (m : HeldModule) (names : List (String Global)) → length names ≡ 0 → held_below m (map string_bytes names) ≡ Ok (borrowed_view (out-HeldModule m).unit)
-below-all m [] h = refl
-below-all m (n ∷ names) h = absurd (omega (arith, h))
 
 pub below-step : (m next : HeldModule) (names others : List (String Global)) (first : String Global) (name : Text) → IsFirstAndRest names first others → name ≡ string_bytes first
     → Some next ≡ get_by_text (out-HeldModule m).modules name → held_below m (map string_bytes names) ≡ held_below next (map string_bytes others)

@@ -17,6 +17,7 @@ use Rattle.wesl_program_packages.specs.declared.held.HeldPackages.{HeldPackages}
 
 -- ---- which value is found
 
+-- the name of a module that is held
 abbrev pub held_name : HeldModule → Text
 held_name m = string_bytes (out-HeldModule m).name
 

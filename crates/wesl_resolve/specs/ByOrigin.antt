@@ -1,6 +1,7 @@
 -- Paths into packages, and all others.
 use Rattle.wesl_tree_names.specs.Path.{Path, Origin, absolute, relative, from_package}
 
+-- P where the origin is a named package, and Q where it is the own package or relative
 abbrev pub AtOrigin : Origin → Type 0 → Type 0 → Type 0
 AtOrigin (from_package name) P Q = P
 AtOrigin absolute P Q = Q

@@ -19,9 +19,11 @@ pub record SaidModule : Type 0 where
   pub source : Text
   pub submodules : SaidModules
 
+-- a module, and then the others
 abbrev pub module_before : SaidModule → SaidModules → SaidModules
 module_before m ms = with_module m.name m.source m.submodules ms
 
+-- the modules of a list, in its order
 abbrev pub modules_in_order : List SaidModule → SaidModules
 modules_in_order [] = no_modules
 modules_in_order (m ∷ ms) = module_before m (modules_in_order ms)
@@ -45,9 +47,11 @@ pub record SaidPackage : Type 0 where
   pub root : SaidModule
   pub dependencies : SaidPackages
 
+-- a package, and then the others
 abbrev pub package_before : SaidPackage → SaidPackages → SaidPackages
 package_before p ps = with_package p.crate_name p.root p.dependencies ps
 
+-- the packages of a list, in its order
 abbrev pub packages_in_order : List SaidPackage → SaidPackages
 packages_in_order [] = no_packages
 packages_in_order (p ∷ ps) = package_before p (packages_in_order ps)

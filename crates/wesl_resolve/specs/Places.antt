@@ -40,6 +40,7 @@ abbrev pub IsFirstBelow : CodegenModule → ℕ → CodegenModule → Type 0
 IsFirstBelow m i s =
     (slice_get (out-CodegenModule m).submodules.items i ≡ Some s) × (find (has_name (module_name s)) (out-CodegenModule m).submodules.items ≡ Some s)
 
+-- the name of a package, which is that of its root
 abbrev pub package_name : CodegenPkg → Text
 package_name k = module_name (out-CodegenPkg k).root
 
@@ -61,11 +62,12 @@ AreNoted ks places = (p : ModulePath) (is : Vec ℕ Global) → get path_eq plac
 abbrev pub StayNoted : {S : Type 0} → List CodegenPkg → HashMap ModulePath (Vec ℕ Global) S → HashMap ModulePath (Vec ℕ Global) S → Type 0
 StayNoted ks before after = AreNoted ks before → AreNoted ks after
 
--- the same once the package with this number is noted, if it is the first of its name; and if it is said that it is
+-- the same once the package with this number is noted, if it is the first of its name
 abbrev pub NoteFirst : {S : Type 0} → List CodegenPkg → ℕ → HashMap ModulePath (Vec ℕ Global) S → HashMap ModulePath (Vec ℕ Global) S → Type 0
 NoteFirst ks i before after = (k : CodegenPkg) → slice_get ks i ≡ Some k → find (root_has_name (package_name k)) ks ≡ Some k
     → StayNoted ks before after
 
+-- the same, if it is the first of its name wherever `is_first` is true
 abbrev pub NoteFirstIf : {S : Type 0} → Bool → List CodegenPkg → ℕ → HashMap ModulePath (Vec ℕ Global) S → HashMap ModulePath (Vec ℕ Global) S → Type 0
 NoteFirstIf is_first ks i before after = (k : CodegenPkg) → slice_get ks i ≡ Some k
     → (is_first ≡ true → find (root_has_name (package_name k)) ks ≡ Some k) → StayNoted ks before after

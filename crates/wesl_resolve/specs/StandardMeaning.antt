@@ -13,6 +13,7 @@ use Rattle.wesl_resolve_base.specs.declared.packages.CodegenPkg.{CodegenPkg}
 use Rattle.wesl_resolve.specs.declared.standard.StandardResolver.{StandardResolver}
 
 module _ {R P : Type 0} where
+  -- the packages, in the order in which they were added
   abbrev pub standard_packages : StandardResolver R P → List CodegenPkg
   standard_packages s = packages_of (package_resolver_of s)
 
@@ -20,15 +21,19 @@ module _ {R P : Type 0} where
   abbrev pub standard_reader : StandardResolver R P → P
   standard_reader s = package_reader_of (package_resolver_of s)
 
+  -- in a named package the source of the module at the path is read as the unit; elsewhere the local resolver hands it out
   abbrev pub standard_hands : (P → Text → UnitOf Text → Type 0) → (R → Path → UnitOf Text → Type 0) → StandardResolver R P → Path → UnitOf Text → Type 0
   standard_hands reads hands s p u = ByOrigin p (IsReadIn (reads (standard_reader s)) (standard_packages s) p u) (hands (local_of s) p u)
 
+  -- in a named package no module is at the path, or its source cannot be read; elsewhere the local resolver refuses the path
   abbrev pub standard_refuses : (P → Text → Error → Type 0) → (R → Path → ResolveError → Type 0) → StandardResolver R P → Path → ResolveError → Type 0
   standard_refuses unreadable refuses s p e = ByOrigin p (IsRefusedIn (unreadable (standard_reader s)) (standard_packages s) p e) (refuses (local_of s) p e)
 
+  -- in a named package the text is the source of the module at the path; elsewhere the local resolver has it as the source
   abbrev pub standard_source : (R → Path → Text → Type 0) → StandardResolver R P → Path → Text → Type 0
   standard_source source s p text = ByOrigin p (IsSourceIn (standard_packages s) p text) (source (local_of s) p text)
 
+  -- in a named package no module is at the path; elsewhere the local resolver refuses the source of the path
   abbrev pub standard_lacks : (R → Path → ResolveError → Type 0) → StandardResolver R P → Path → ResolveError → Type 0
   standard_lacks lacks s p e = ByOrigin p (IsMissingIn (standard_packages s) p e) (lacks (local_of s) p e)
 

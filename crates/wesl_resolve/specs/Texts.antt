@@ -35,6 +35,7 @@ IsPut p text before after = (after ≡ put p text before) × IsLast p text befor
 abbrev pub IsReadAt : (Text → UnitOf Text → Type 0) → List (Path × Text) → Path → UnitOf Text → Type 0
 IsReadAt reads texts p u = (text : Text) × (text_at p texts ≡ Some text) × reads text u
 
+-- the path has no text, and the error says that no module is found at it, with the text `virtual module`
 abbrev pub IsMissing : List (Path × Text) → Path → ResolveError → Type 0
 IsMissing texts p e = (text_at p texts ≡ None) × IsModuleNotFound p (codes "virtual module") e
 

@@ -11,12 +11,15 @@ use Rattle.wesl_tree_syntax.specs.Unit.{UnitOf}
 use Rattle.wesl_resolve_base.specs.declared.packages.CodegenModule.{CodegenModule, out-CodegenModule}
 use Rattle.wesl_resolve_base.specs.declared.packages.CodegenPkg.{CodegenPkg, out-CodegenPkg}
 
+-- the name of a module
 abbrev pub module_name : CodegenModule → Text
 module_name m = string_bytes (out-CodegenModule m).name
 
+-- the source text of a module
 abbrev pub source_of : CodegenModule → Text
 source_of m = string_bytes (out-CodegenModule m).source
 
+-- whether a module has the name
 abbrev pub has_name : Text → CodegenModule → Bool
 has_name name m = bytes_eq (module_name m) name
 
@@ -24,12 +27,15 @@ has_name name m = bytes_eq (module_name m) name
 abbrev pub root_has_name : Text → CodegenPkg → Bool
 root_has_name name k = has_name name (out-CodegenPkg k).root
 
+-- what is said of a component that names no submodule of the module of this name
 abbrev pub no_submodule : Text → Text → Text
 no_submodule name component = codes "in module `" ++ name ++ codes "`, no submodule named `" ++ component ++ codes "`"
 
+-- what is said of the whole name of a package whose first part names none of the packages that were added
 abbrev pub no_package : Text → Text
 no_package whole = codes "dependency `" ++ whole ++ codes "` not found"
 
+-- what is said of a further part of the whole name of a package, where it names no dependency of the package before
 abbrev pub no_dependency : Text → Text → Text
 no_dependency part whole = codes "dependency `" ++ part ++ codes "` not found in package path `" ++ whole ++ codes "`"
 
@@ -57,10 +63,13 @@ package_at packages whole (part ∷ parts) = elim (find (root_has_name part) pac
   | Some k ↦ package_below whole k parts
 ]
 
+-- the module that the components lead to from the root of a package that was found, or what is said where none was
 abbrev pub module_in : Result CodegenPkg Text → List Text → Result CodegenModule Text
 module_in (Ok k) components = module_below (out-CodegenPkg k).root components
 module_in (Err message) components = Err message
 
+-- the module at these components under an origin, or what is said where there is none; under an origin that is no package there
+-- never is one
 abbrev pub module_from : List CodegenPkg → Origin → List Text → Result CodegenModule Text
 module_from packages (from_package name) components = module_in (package_at packages name (cut slash name)) components
 module_from packages absolute components = Err (codes "resolver can only resolve package imports")
@@ -79,6 +88,7 @@ IsReadIn reads packages p u = (m : CodegenModule) × (module_at packages p ≡ O
 abbrev pub IsSaid : {X : Type 0} → Path → Result X Text → ResolveError → Type 0
 IsSaid p found e = (message : Text) × (found ≡ Err message) × IsModuleNotFound p message e
 
+-- no module is at the path, and the error says why
 abbrev pub IsMissingIn : List CodegenPkg → Path → ResolveError → Type 0
 IsMissingIn packages p e = IsSaid p (module_at packages p) e
 
@@ -86,5 +96,6 @@ IsMissingIn packages p e = IsSaid p (module_at packages p) e
 abbrev pub IsRefusedIn : (Text → Error → Type 0) → List CodegenPkg → Path → ResolveError → Type 0
 IsRefusedIn unreadable packages p e = IsMissingIn packages p e ⊎ ((m : CodegenModule) × (module_at packages p ≡ Ok m) × IsRefusedFor (unreadable (source_of m)) e)
 
+-- a module is at the path, and the text is its source
 abbrev pub IsSourceIn : List CodegenPkg → Path → Text → Type 0
 IsSourceIn packages p text = (m : CodegenModule) × (module_at packages p ≡ Ok m) × (source_of m ≡ text)

@@ -1,7 +1,7 @@
 //! Packages whose modules are held as texts.
 ghost use Rattle.std.specs.Prelude.{◌≡◌, Ok, Err, Result, IfOk, IfErr, option_map, map, string_bytes};
 ghost use Rattle.std.specs.List.{find};
-ghost use Rattle.wesl_tree_names.specs.Path.{Text, path_view};
+ghost use Rattle.wesl_tree_names.specs.Path.{path_view};
 ghost use Rattle.wesl_tree_base.specs.Pieces.{cut, slash};
 ghost use Rattle.wesl_tree_base.specs.Borrowed.{texts};
 ghost use Rattle.wesl_tree_names.specs.Errors.{OrMemory, IsModuleNotFound};

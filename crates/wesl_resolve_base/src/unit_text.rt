@@ -1,6 +1,6 @@
 //! A form in which units are written as texts.
 ghost use Rattle.std.specs.Prelude.{◌≡◌, ◌⊎◌, IfOk, IfErr, string_bytes};
-ghost use Rattle.wesl_tree_names.specs.Path.{Text, path_view};
+ghost use Rattle.wesl_tree_names.specs.Path.{Text};
 ghost use Rattle.wesl_tree_names.specs.Errors.{OrMemory, IsRefusedFor};
 ghost use Rattle.wesl_tree_names.specs.declared.errors.Error.{Error};
 ghost use Rattle.wesl_tree_names.specs.declared.errors.Error as error;

@@ -1,6 +1,5 @@
 //! Mappers: the names that they give as manglers, the modules that they pass on as resolvers, and the record of both.
 ghost use Rattle.std.specs.Prelude.{◌≡◌, false};
-ghost use Rattle.wesl_tree_names.specs.Path.{path_view, is_relative};
 
 use crate::features::listed;
 use crate::maps;

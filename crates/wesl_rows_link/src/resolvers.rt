@@ -1,6 +1,5 @@
 //! Resolvers: where modules come from, and what a resolver holds after a call that adds to it.
 ghost use Rattle.std.specs.Prelude.{◌≡◌, false};
-ghost use Rattle.wesl_tree_names.specs.Path.{path_view, is_relative};
 
 use serde_json::Value;
 use wesl_json::JsonText;

@@ -1,20 +1,16 @@
 -- Entry points, one declaration after the other.
-use Rattle.std.proofs.Common.{◌≡◌, ℕ, ◌+◌, ◌<◌, Bool, ◌||◌, List, [], ◌∷◌, ◌++◌, length, get_or, map, drop, refl, sym, ap, ◌∙◌, add-one, drop-cons}
+use Rattle.std.proofs.Common.{◌≡◌, ℕ, ◌+◌, ◌<◌, Bool, List, [], ◌∷◌, ◌++◌, length, get_or, map, drop, refl, sym, ap, ◌∙◌, add-one, drop-cons}
 use Rattle.std.proofs.lemmas.List.{append_assoc}
 use Rattle.wesl_tree_syntax.specs.Tree.{forest_of, attribute_node, declaration_node}
 use Rattle.wesl_tree_syntax.specs.View.{attribute_view, global_view, placed}
 use Rattle.wesl_tree_syntax.specs.declared.span.Spanned.{Spanned}
 use Rattle.wesl_tree_syntax.specs.declared.attribute.Attribute.{Attribute}
 use Rattle.wesl_tree_syntax.specs.declared.declaration.GlobalDeclaration.{GlobalDeclaration}
-use Rattle.wesl_scope_strip.specs.Forests.{begins, one_begins}
+use Rattle.wesl_scope_strip.specs.Forests.{one_begins}
 use Rattle.wesl_scope.specs.EntryPoints.{is_stage, entry_points_of, entry_points_in}
 
 abbrev pub one_stage : List (Spanned Attribute) → Bool
 one_stage xs = one_begins is_stage (forest_of (map (placed attribute_view attribute_node) xs))
-
-pub stage_next : (xs : List (Spanned Attribute)) (i : ℕ) (x : Spanned Attribute) → i < length xs → x ≡ get_or xs i x
-    → one_stage (drop i xs) ≡ begins is_stage (forest_of (attribute_view x.node ∷ [])) || one_stage (drop (i + 1) xs)
-stage_next xs i x h is = rw (drop-cons xs i x h, ← is, add-one) refl
 
 abbrev pub points : List (Spanned GlobalDeclaration) → List ℕ
 points xs = entry_points_of (forest_of (map (placed global_view declaration_node) xs))

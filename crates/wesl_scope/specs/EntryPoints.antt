@@ -11,6 +11,7 @@ module _ {I : Type 0} where
   is_stage (kind compute) = true
   is_stage _ = false
 
+  -- whether a label is that of a function
   abbrev pub is_function : LabelOf I → Bool
   is_function (kind function) = true
   is_function _ = false

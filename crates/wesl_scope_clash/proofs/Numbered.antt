@@ -15,9 +15,6 @@ use Rattle.wesl_scope_clash.specs.Numbering.{with_key, distinct_from}
 use Rattle.wesl_scope_meanings.proofs.Entries.{keys_decide, one_test}
 
 -- where a key stands among those that have a number
-pub record Stands (k : Key) (seen : List Key) : Type 0 where
-  pub where_is : (index_in k seen ≡ length seen) ⊎ ((index_in k seen < length seen) × (get_or seen (index_in k seen) (free []) ≡ k))
-
 pub stands : (k : Key) (seen : List Key) → (index_in k seen ≡ length seen) ⊎ ((index_in k seen < length seen) × (get_or seen (index_in k seen) (free []) ≡ k))
 stands k [] = inl refl
 stands k (x ∷ xs) = at (same_key x k) (keys_decide x k) (stands k xs)

@@ -37,6 +37,7 @@ module _ (names : List Text) (all : List (Occurrence ℕ)) where
   AgreeOn m [] = All (λ o. is_binder o.role ≡ true → o.name ≢ m) all
   AgreeOn m (x ∷ xs) = All (λ o. o.name ≡ m) (x ∷ xs)
 
+  -- plain scoping of the names says what the numbers say, of binders of the module's block and of references without a path
   pub record ReadRight : Type 0 where
     -- binders of the module's block that are spelled alike have one number
     pub module_names_apart : All (λ a. is_global a ≡ true → All (λ b. is_global b ≡ true → name_of b ≡ name_of a → b.name ≡ a.name) all) all

@@ -31,10 +31,12 @@ after_meeting j r here i = meeting j.alike.items r here i (known j)
 abbrev pub after_end : Judge → Here → ℕ → Judging
 after_end j here i = judging j.alike.items (known j) (ends here i)
 
--- what it says at the end of imports and global declarations, and of references that read no binder in a function
+-- what it says at the end of names of the module: whether those of imports and global declarations that are spelled alike
+-- have one number
 abbrev pub says_apart : Judge → Bool
 says_apart j = all_below (length j.alike.items) (apart_at j.alike.items (known j))
 
+-- what it says at the end of references that read no binder in a function: whether all of them read right
 abbrev pub says_outside : Judge → Bool
 says_outside j = all_below (length j.alike.items) (outside_at j.alike.items (known j))
 
@@ -75,9 +77,11 @@ matched_judged alike (closes ∷ es) fs s h = matched_judged alike es fs (taken_
     by (r ∷ rs) g = g
 matched_judged alike (ends here i ∷ es) fs s h = matched_judged alike es fs (judging alike s (ends here i)) h
 
+-- without events nothing changes
 pub follows_none : (j : Judge) → Follows [] j j
 follows_none j = record { noted = λ k. k; alike = refl; known_now = λ k m. refl }
 
+-- where some events make b of a, and others c of b, all of them, one after the other, make c of a
 pub follows_more : (es fs : List Event) (a b c : Judge) → Follows es a b → Follows fs b c → Follows (es ++ fs) a c
 follows_more es fs a b c x y = record {
   noted = λ k. x.noted (y.noted k);

@@ -10,23 +10,23 @@ use Rattle.wesl_scope_clash.specs.declared.agreed.Agreed.TheVariants as made
 use Rattle.wesl_scope_clash.specs.declared.agreed.Visible.{Visible}
 
 -- ---- on which number binders agree
--- whether it is this one
+-- whether binders agree on the number m
 abbrev pub is_on : Agreed → ℕ → Bool
 is_on (made.On j) m = j == m
 is_on made.Apart m = false
 
--- with one more binder
+-- on which number binders agree, with one more of number k
 abbrev pub with_number : Option Agreed → ℕ → Agreed
 with_number None k = made.On k
 with_number (Some (made.On j)) k = if j == k then made.On j else made.Apart
 with_number (Some made.Apart) k = made.Apart
 
--- those of block b, where these are visible
+-- on which number the binders of block b agree, where they are those that are visible
 abbrev pub agreed_in : ℕ → Option Visible → Option Agreed
 agreed_in b None = None
 agreed_in b (Some v) = if v.block == b then Some v.agreed else None
 
--- with one more binder, which block b declares
+-- the binders of a name that are visible, with one more of number k in block b, which hides those of other blocks
 abbrev pub visible_with : Option Visible → ℕ → ℕ → Visible
 visible_with old b k = record { block = b; agreed = with_number (agreed_in b old) k }
 
@@ -36,9 +36,11 @@ agree_or None b m = b
 agree_or (Some a) b m = is_on a m
 
 -- ---- the walk
+-- of each name, by its number, the binders in a function that a reference reads, if one is visible
 abbrev pub Row : Type 0
 Row = RowOf Visible
 
+-- what the walk knows after some events
 pub record Judging : Type 0 where
   -- of each name the binders that a reference reads in a function
   pub visible : Row
@@ -59,20 +61,24 @@ pub record Judging : Type 0 where
 abbrev pub seen_here : Here → Option Visible → Option Visible
 seen_here here v = if here.is_local then v else None
 
+-- whether a reference of number i that reads these binders has their number; where it reads none, it is judged at the end
 abbrev pub right_of : Option Visible → ℕ → Bool
 right_of (Some v) i = is_on v.agreed i
 right_of None i = true
 
+-- the number i of a reference is marked where that reads no binder in a function
 abbrev pub outside_with : Option Visible → ℕ → List Bool → List Bool
 outside_with (Some v) i marks = marks
 outside_with None i marks = set marks i true
 
+-- names read again what they read where the innermost open block was opened; where none is open, nothing changes
 abbrev pub taken_back : List Row → Judging → Judging
 taken_back [] s = s
 taken_back (r ∷ rs) s = record s { visible = r; outer = rs }
 
 -- where identifiers have these names, by their numbers
 module _ (alike : List ℕ) where
+  -- the number of the name that identifiers of number i have, 0 where `alike` has none for i
   abbrev pub name_at : ℕ → ℕ
   name_at i = get_or alike i 0
 
@@ -80,6 +86,9 @@ module _ (alike : List ℕ) where
   abbrev pub declared : ℕ → ℕ → Row → Row
   declared b i row = set row (name_at i) (Some (visible_with (get_or row (name_at i) None) b i))
 
+  -- What it knows after it has met an identifier of number i that stands so. A parameter is visible at once, a local name
+  -- later. A reference without a path is judged where it reads a binder in a function, and else noted for the end. One with
+  -- a path and a word change nothing.
   abbrev pub meeting : Standing → Here → ℕ → Judging → Judging
   meeting module_name here i s = record s {
     globals = set s.globals (name_at i) (Some (with_number (get_or s.globals (name_at i) None) i));
@@ -95,6 +104,7 @@ module _ (alike : List ℕ) where
   meeting (reference (Some path)) here i s = s
   meeting word here i s = s
 
+  -- what it knows after one event: a local name is visible once its declaration has ended
   abbrev pub judging : Judging → Event → Judging
   judging s begins = s
   judging s (meets here r i) = meeting r here i s
@@ -102,6 +112,7 @@ module _ (alike : List ℕ) where
   judging s closes = taken_back s.outer s
   judging s (ends here i) = record s { visible = declared here.block i s.visible }
 
+  -- what it knows after these events, one after the other
   abbrev pub judged : Judging → List Event → Judging
   judged s [] = s
   judged s (e ∷ es) = judged (judging s e) es

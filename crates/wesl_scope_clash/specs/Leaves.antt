@@ -16,6 +16,7 @@ module _ {I : Type 0} where
   is_leaf (ident r x) (tree l children others) = false
   is_leaf l f = true
 
+  -- whether no identifier in these trees has anything below it
   abbrev pub are_leaves : ForestOf I → Bool
   are_leaves end = true
   are_leaves (tree l children others) = is_leaf l children && are_leaves children && are_leaves others

@@ -12,5 +12,6 @@ abbrev pub distinct_from : List Key → List Key → List Key
 distinct_from seen [] = seen
 distinct_from seen (k ∷ ks) = distinct_from (with_key seen k) ks
 
+-- the different keys, by first occurrence
 abbrev pub distinct : List Key → List Key
 distinct = distinct_from []

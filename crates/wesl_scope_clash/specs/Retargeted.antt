@@ -34,5 +34,6 @@ module _ (names : List Text) (all : List (Occurrence ℕ)) where
 abbrev pub RunByFirst : List ℕ → Type 0
 RunByFirst ns = (i m : ℕ) → i < length ns → m < number_at ns i → (j : ℕ) × (j < i) × (number_at ns j ≡ m)
 
+-- the numbers of the module follow meanings, and run 0, 1, 2, .. by first occurrence
 abbrev pub IsNumberedByMeaning : UnitView → Type 0
 IsNumberedByMeaning u = FollowMeanings u.names (occurrences (trees_of u)) × RunByFirst (numbers u)

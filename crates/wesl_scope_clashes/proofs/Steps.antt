@@ -5,7 +5,7 @@ use Rattle.std.specs.List.{All, find, cons_option}
 use Rattle.std.specs.Option.{is_some, option_map, option_or, option_to_list}
 use Rattle.std.proofs.Math.Dec.{leb}
 use Rattle.std.proofs.lemmas.Bool.Decides.{Decides-eqb, leb_tells}
-use Rattle.std.proofs.lemmas.List.{append-nil, drop_all, map_push, get_or-set_same, get_or-set_other}
+use Rattle.std.proofs.lemmas.List.{append-nil, drop_all, get_or-set_same, get_or-set_other}
 use Rattle.std.proofs.lemmas.List.Folds.{find-append}
 use Rattle.wesl_tree_names.specs.Path.{Text}
 use Rattle.wesl_scope_occurrences.specs.Walk.{Found}
@@ -180,25 +180,6 @@ pub added_in : (of : List (Vec Sighting Global)) (n : ℕ) (v w : Vec Sighting G
 added_in of n v w s h e f k p x =
     ap (λ g. first_in g k p x) (view_set of n w)
     ∙ pushed (groups_view of) n k p x w.items s (subst (λ m. n < m) (sym (length_view of)) h) (f p x ∙ ap (λ ss. first_of p x (ss ++ s ∷ [])) (items_at of n v h e))
-
-one_more : (g : Groups) (k : ℕ) → get_or (g ++ [] ∷ []) k [] ≡ get_or g k []
-one_more [] zero = refl
-one_more [] (suc k) = refl
-one_more (x ∷ g) zero = refl
-one_more (x ∷ g) (suc k) = one_more g k
-
-pub grown_in : (of new : List (Vec Sighting Global)) (v : Vec Sighting Global) → new ≡ of ++ v ∷ [] → v.items ≡ [] → (k p : ℕ) (x : Option ℕ) → first_in (groups_view new) k p x ≡ first_in (groups_view of) k p x
-grown_in of new v e f k p x =
-    ap (λ l. first_in (groups_view l) k p x) e
-    ∙ (ap (λ g. first_in g k p x) (map_push (λ u. u.items) of v ∙ ap (λ ss. groups_view of ++ ss ∷ []) f) ∙ ap (first_of p x) (one_more (groups_view of) k))
-
-pub past_in : (of : List (Vec Sighting Global)) (k p : ℕ) (x : Option ℕ) → length of ≤ k → None ≡ first_in (groups_view of) k p x
-past_in [] k p x h = refl
-past_in (v ∷ of) zero p x h = absurd (omega (arith, h))
-past_in (v ∷ of) (suc k) p x h = past_in of k p x (omega (arith, h))
-
-pub there_in : (of : List (Vec Sighting Global)) (k p : ℕ) (x : Option ℕ) (v : Vec Sighting Global) → k < length of → v ≡ get_or of k v → first_of p x v.items ≡ first_in (groups_view of) k p x
-there_in of k p x v h e = ap (first_of p x) (items_at of k v h e)
 
 -- an identifier as a binder
 abbrev sighted : ℕ → ℕ → Option ℕ → ℕ → Binder → ℕ → Option Binder

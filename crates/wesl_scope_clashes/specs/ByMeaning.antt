@@ -16,7 +16,7 @@ use Rattle.wesl_scope_clashes.specs.declared.clash.Reading.TheVariants.{Captured
 abbrev pub Look : Type 0
 Look = ℕ → ℕ → Option ℕ → Option Binder
 
--- by the first binder that is picked, the first with another number, and whether the number is a binder's
+-- how a reference is misread, by the first binder that it picks, the first of another number, and whether one has its own
 abbrev pub read_by : Option Binder → Option Binder → Bool → Option Reading
 read_by None other is_bound = if is_bound then Some Unbound else None
 read_by (Some b) other is_bound = option_map Captured other
@@ -33,6 +33,7 @@ module _ (visible earlier : Look) (is_bound : ℕ → Bool) where
       if is_unqualified o.role then read_at visible is_bound k o.place o.name
       else (if in_module o then option_map Duplicate (earlier k o.place (Some o.name)) else None)
 
+  -- what is told of an identifier of the meaning k, if it is misread
   abbrev pub clash_by : List Text → ℕ → Found → Option ClashOf
   clash_by names k o = option_map (λ r. record { place = o.place; name = name_in names o.name; number = o.name; reading = r }) (reading_by k o)
 

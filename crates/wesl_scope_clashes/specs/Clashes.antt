@@ -19,6 +19,7 @@ pub record ClashOf : Type 0 where
   pub number : ℕ
   pub reading : Reading
 
+-- what a clash of the code tells
 abbrev pub clash_view : Clash → ClashOf
 clash_view c = record { place = c.place; name = c.name.now; number = c.ident.0; reading = c.reading }
 
@@ -50,6 +51,7 @@ module _ (names : List Text) (all : List (Occurrence ℕ)) where
       if is_unqualified o.role then read_among o.name (binders_of names all (name_of names all o) o.place o.block)
       else (if is_global o then option_map (λ b. Duplicate (binder_at b)) (find (is_rival o) all) else None)
 
+  -- what is told of an identifier, if it is misread
   abbrev pub clash_at : Occurrence ℕ → Option ClashOf
   clash_at o = option_map (λ r. record { place = o.place; name = name_of names all o; number = o.name; reading = r }) (misreading o)
 

@@ -15,10 +15,11 @@ abbrev pub differs : Option ℕ → ℕ → Bool
 differs None n = true
 differs (Some m) n = not (n == m)
 
--- whether a binder is there from place p on, and not excepted
+-- whether a binder is there at place p, and not excepted
 abbrev pub is_met : ℕ → Option ℕ → Sighting → Bool
 is_met p x s = nat_le s.from p && differs x s.binder.ident.0
 
+-- the first binder of these that is there at place p, and not excepted
 abbrev pub first_of : ℕ → Option ℕ → List Sighting → Option Binder
 first_of p x ss = option_map (λ s. s.binder) (find (is_met p x) ss)
 
@@ -26,6 +27,7 @@ first_of p x ss = option_map (λ s. s.binder) (find (is_met p x) ss)
 abbrev pub Groups : Type 0
 Groups = List (List Sighting)
 
+-- the groups that the lists of the code are
 abbrev pub groups_view : List (Vec Sighting Global) → Groups
 groups_view = map (λ v. v.items)
 

@@ -1,5 +1,5 @@
 -- Nodes that are met, one after the other.
-use Rattle.std.proofs.Common.{◌≡◌, ◌≢◌, ◌⊎◌, ◌↔◌, ℕ, zero, suc, ◌+◌, ◌<◌, ◌≤◌, ◌==◌, Bool, true, false, List, [], ◌∷◌, ◌++◌, length, get_or, set, take, take_all, refl, sym, ap, ◌∙◌, subst, inl, inr, arith, length-append, get_or-set_same, get_or-set_other}
+use Rattle.std.proofs.Common.{◌≡◌, ◌≢◌, ◌⊎◌, ◌↔◌, ℕ, zero, suc, ◌+◌, ◌<◌, ◌≤◌, ◌==◌, Bool, true, false, List, [], ◌∷◌, ◌++◌, length, get_or, set, take, refl, sym, ap, ◌∙◌, subst, inl, inr, arith, length-append, get_or-set_same}
 use Rattle.std.specs.Prelude.{if◌then◌else◌}
 use Rattle.std.specs.List.{Contains}
 use Rattle.std.proofs.lemmas.Bool.Decides.{Decides-eqb}
@@ -7,7 +7,7 @@ use Rattle.std.proofs.lemmas.List.{take_more}
 use Rattle.std.proofs.lemmas.List.Elements.{Contains-append_left, Contains-append_right, Contains-append_cases, Contains-push, Contains-push_cases}
 use Rattle.std.proofs.lemmas.List.Sums.{sum_by-set}
 use Rattle.wesl_scope_graph.specs.Marks.{mark_at, unmarked, Meets}
-use Rattle.wesl_scope_graph.proofs.Growing.{contains_none, contains_one}
+use Rattle.wesl_scope_graph.proofs.Growing.{contains_one}
 
 contains_itself : (n : ℕ) → Contains (n ∷ []) n
 contains_itself n = (0, omega arith, refl)
@@ -52,45 +52,6 @@ set_stays (m ∷ ms) zero zero h = refl
 set_stays (m ∷ ms) zero (suc a) h = h
 set_stays (m ∷ ms) (suc n) zero h = h
 set_stays (m ∷ ms) (suc n) (suc a) h = set_stays ms n a h
-
-pub meets_none : (ms : List Bool) (ws : List ℕ) → Meets [] ms ms ws ws
-meets_none ms ws = record {
-  sized = refl;
-  marks = λ a. (λ h. inl h, back a);
-  put = λ a. (λ h. inl h, same a);
-  once = refl;
-}
-  where
-    back : (a : ℕ) → (mark_at ms a ≡ true) ⊎ (Contains [] a × (a < length ms)) → mark_at ms a ≡ true
-    back a (inl h) = h
-    back a (inr c) = absurd (contains_none a c.0)
-
-    same : (a : ℕ) → Contains ws a ⊎ ((mark_at ms a ≡ false) × (mark_at ms a ≡ true)) → Contains ws a
-    same a (inl c) = c
-    same a (inr p) = absurd (not_both p.0 p.1)
-
--- a node that has its mark, and one that has no place among the marks
-meets_old : (n : ℕ) (ms : List Bool) (ws : List ℕ) → (n < length ms → mark_at ms n ≡ true) → Meets (n ∷ []) ms ms ws ws
-meets_old n ms ws old = record {
-  sized = refl;
-  marks = λ a. (λ h. inl h, back a);
-  put = λ a. (λ h. inl h, same a);
-  once = refl;
-}
-  where
-    back : (a : ℕ) → (mark_at ms a ≡ true) ⊎ (Contains (n ∷ []) a × (a < length ms)) → mark_at ms a ≡ true
-    back a (inl h) = h
-    back a (inr c) = subst (λ k. k < length ms → mark_at ms k ≡ true) (contains_one n a c.0) old c.1
-
-    same : (a : ℕ) → Contains ws a ⊎ ((mark_at ms a ≡ false) × (mark_at ms a ≡ true)) → Contains ws a
-    same a (inl c) = c
-    same a (inr p) = absurd (not_both p.0 p.1)
-
-pub meets_marked : (n : ℕ) (ms : List Bool) (ws : List ℕ) → mark_at ms n ≡ true → Meets (n ∷ []) ms ms ws ws
-meets_marked n ms ws h = meets_old n ms ws (λ l. h)
-
-pub meets_past : (n : ℕ) (ms : List Bool) (ws : List ℕ) → length ms ≤ n → Meets (n ∷ []) ms ms ws ws
-meets_past n ms ws h = meets_old n ms ws (λ l. absurd (omega (arith, h, l)))
 
 -- a node that gets its mark
 pub meets_new : (n : ℕ) (ms : List Bool) (ws : List ℕ) → n < length ms → mark_at ms n ≡ false → Meets (n ∷ []) ms (set ms n true) ws (ws ++ n ∷ [])
@@ -172,9 +133,6 @@ meets_next ns i n ms now after us way longer h is s t =
     let more : take (i + 1) ns ≡ take i ns ++ n ∷ [] = take_more ns i 0 h ∙ ap (λ k. take i ns ++ k ∷ []) (sym is) in
     subst (λ xs. Meets xs ms after us longer) (sym more) (meets_then (take i ns) (n ∷ []) ms now after us way longer s t)
 
-pub meets_all : (ns : List ℕ) (i : ℕ) (ms now : List Bool) (us way : List ℕ) → length ns ≤ i → Meets (take i ns) ms now us way → Meets ns ms now us way
-meets_all ns i ms now us way h s = subst (λ xs. Meets xs ms now us way) (take_all i ns h) s
-
 -- The marked ones of the first nodes, after one more.
 pub listed_next : (ms : List Bool) (ws : List ℕ) (i : ℕ) → mark_at ms i ≡ true → ((a : ℕ) → Contains ws a ↔ ((a < i) × (mark_at ms a ≡ true))) → (a : ℕ) → Contains (ws ++ i ∷ []) a ↔ ((a < i + 1) × (mark_at ms a ≡ true))
 listed_next ms ws i h all a = (λ c. there (Contains-push_cases ws i a c), λ p. back (a == i) (Decides-eqb a i) p.0 p.1)
@@ -192,9 +150,6 @@ listed_same ms ws i h all a = (λ c. let p = (all a).0 c in (omega (arith, p.0),
   where
     back : a < i + 1 → mark_at ms a ≡ true → Contains ws a
     back l e = let ne : a ≢ i = λ q. not_both h (subst (λ k. mark_at ms k ≡ true) q e) in (all a).1 (omega (arith, l, ne), e)
-
-pub listed_none : (ms : List Bool) (a : ℕ) → Contains [] a ↔ ((a < 0) × (mark_at ms a ≡ true))
-listed_none ms a = (λ c. absurd (contains_none a c), λ p. absurd (let l : a < 0 = p.0 in omega (arith, l)))
 
 pub listed_all : (ms : List Bool) (ws : List ℕ) (i : ℕ) → length ms ≤ i → ((a : ℕ) → Contains ws a ↔ ((a < i) × (mark_at ms a ≡ true))) → (a : ℕ) → Contains ws a ↔ (mark_at ms a ≡ true)
 listed_all ms ws i h all a = (λ c. ((all a).0 c).1, λ e. (all a).1 (let l = marked_within ms a e in omega (arith, l, h), e))

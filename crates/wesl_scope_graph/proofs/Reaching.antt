@@ -1,9 +1,9 @@
 -- A walk marks what is reached.
-use Rattle.std.proofs.Common.{◌≡◌, ◌⊎◌, ◌↔◌, ℕ, ◌+◌, ◌<◌, Bool, true, false, List, [], ◌∷◌, ◌++◌, length, refl, sym, ap, ◌∙◌, subst, inl, inr, arith, length-append}
+use Rattle.std.proofs.Common.{◌≡◌, ◌⊎◌, ◌↔◌, ℕ, ◌<◌, Bool, true, false, List, [], ◌∷◌, ◌++◌, length, refl, sym, ◌∙◌, subst, inl, inr, arith}
 use Rattle.std.specs.List.{Contains}
 use Rattle.std.proofs.lemmas.List.Elements.{Contains-append_left, Contains-push, Contains-push_cases}
 use Rattle.wesl_scope_graph.specs.Graphs.{Graph, edges_at, Leads, Reached, marked, onward}
-use Rattle.wesl_scope_graph.specs.Marks.{mark_at, unmarked, Meets}
+use Rattle.wesl_scope_graph.specs.Marks.{mark_at, Meets}
 use Rattle.wesl_scope_graph.proofs.Growing.{contains_none}
 
 -- All nodes on the way are marked, and each marked node that is not there was gone on from.
@@ -58,12 +58,6 @@ module _ (g : Graph) (first marks after : List Bool) (way rest longer : List ℕ
     on_way = λ a c. on_way a ((m.put a).0 c);
     closed = λ a b h l inside. closed a b (mark_at marks a) refl h l inside;
   }
-
-  pub smaller : unmarked after + length longer < unmarked marks + length way
-  smaller =
-      let once = m.once in
-      let one : length way ≡ length rest + 1 = ap length taken ∙ length-append rest (n ∷ []) in
-      omega (arith, once, one)
 
 pub empty : (ws : List ℕ) → length ws ≡ 0 → ws ≡ []
 empty [] h = refl

@@ -4,9 +4,11 @@ use Rattle.std.specs.List.{Contains}
 use Rattle.std.specs.declared.alloc.Global.{Global}
 use Rattle.wesl_scope_graph.specs.Marks.{mark_at}
 
+-- of each node, by its number, the nodes to which it leads; a number past the end of the list may stand there, and is no node
 abbrev pub Graph : Type 0
 Graph = List (List ℕ)
 
+-- the graph that the lists of the code are
 abbrev pub graph_view : List (Vec ℕ Global) → Graph
 graph_view = map (λ v. v.items)
 
@@ -14,6 +16,7 @@ graph_view = map (λ v. v.items)
 abbrev pub edges_at : Graph → ℕ → List ℕ
 edges_at g a = get_or g a []
 
+-- node a leads to node b
 abbrev pub Leads : Graph → ℕ → ℕ → Type 0
 Leads g a b = Contains (edges_at g a) b
 

@@ -2,6 +2,7 @@
 use Rattle.std.specs.Prelude.{◌≡◌, ◌⊎◌, ◌↔◌, ◌+◌, ◌<◌, ℕ, Bool, true, false, List, length, slice_index_or, if◌then◌else◌}
 use Rattle.std.specs.List.{Contains, sum_by}
 
+-- whether node a has its mark; past the end of the marks there is none
 abbrev pub mark_at : List Bool → ℕ → Bool
 mark_at ms a = slice_index_or ms a false
 

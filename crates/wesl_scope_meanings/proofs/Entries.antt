@@ -1,12 +1,9 @@
--- Keys of the code, and what a look-up by a key finds.
-use Rattle.std.proofs.Common.{◌≡◌, ℕ, ◌+◌, ◌<◌, Bool, true, false, cond, ◌&&◌, ◌||◌, ◌==◌, List, [], ◌∷◌, length, get_or, map, drop, drop-cons, add-one, refl, sym, ◌∙◌, ap}
-use Rattle.std.specs.List.{list_any}
-use Rattle.std.specs.Prelude.{bytes_eq, Option, Some, None, if◌then◌else◌}
-use Rattle.std.specs.Map.{lookup}
+-- Keys of the code, and the test by which a look-up compares them.
+use Rattle.std.proofs.Common.{◌≡◌, Bool, true, false, ◌==◌, List, [], ◌∷◌, refl, sym, ◌∙◌, ap}
+use Rattle.std.specs.Prelude.{bytes_eq}
 use Rattle.std.specs.Bool.{Decides}
 use Rattle.std.proofs.lemmas.Bool.Decides.{Decides-and, Decides-eqb}
 use Rattle.std.proofs.lemmas.Slice.Eq.{bytes_eq-Decides}
-use Rattle.indexmap.specs.IndexMap.{insert_entry}
 use Rattle.wesl_tree_names.specs.Path.{Text, Path, Origin, absolute, relative, from_package, same_origin, path_view}
 use Rattle.wesl_tree_names.specs.PathLaws.{Equality, path_eq}
 use Rattle.wesl_scope_meanings.specs.Scopes as scopes
@@ -76,52 +73,3 @@ module _ (law : Equality) where
   -- the test by which a look-up compares
   pub key_test : (k x : Key) → key_eq k x ≡ same_key (flat x) (flat k)
   key_test k x = one_test _ _ (key_decides k x) (along (keys_decide (flat x) (flat k)) sym sym)
-
--- look-ups by tests that agree
-pub same_lookup : {K X : Type 0} (s t : K → Bool) → ((k : K) → s k ≡ t k) → (es : List (K × X)) → lookup s es ≡ lookup t es
-same_lookup s t same [] = refl
-same_lookup s t same (e ∷ es) = ap (λ b. cond b (Some e.1) (lookup s es)) (same e.0) ∙ ap (λ o. cond (t e.0) (Some e.1) o) (same_lookup s t same es)
-
--- what a look-up finds once an entry is put
-module _ {K X : Type 0} (eq : K → K → Bool) (t : K → Bool) (k : K) (v : X) (same : (x : K) → eq k x ≡ true → t k ≡ t x) (one : (x : K) → t k ≡ true → t x ≡ true → eq k x ≡ true) where
-  pulled : (e : K × X) (es : List (K × X)) (b : Bool) → lookup t (if b then (e.0, v) ∷ es else e ∷ insert_entry eq es k v) ≡ (if b then cond (t e.0) (Some v) (lookup t es) else cond (t e.0) (Some e.1) (lookup t (insert_entry eq es k v)))
-  pulled e es true = refl
-  pulled e es false = refl
-
-  chosen : (b p q : Bool) (l i : Option X) (w : X) → (b ≡ true → p ≡ q) → (p ≡ true → q ≡ true → b ≡ true) → i ≡ (if p then Some v else l)
-      → (if b then cond q (Some v) l else cond q (Some w) i) ≡ (if p then Some v else cond q (Some w) l)
-  chosen true true true l i w s o h = refl
-  chosen true true false l i w s o h = absurd (let x : true ≡ false = s refl in let y : ⊥ = cc in y)
-  chosen true false true l i w s o h = absurd (let x : false ≡ true = s refl in let y : ⊥ = cc in y)
-  chosen true false false l i w s o h = refl
-  chosen false true true l i w s o h = absurd (let x : false ≡ true = o refl refl in let y : ⊥ = cc in y)
-  chosen false true false l i w s o h = h
-  chosen false false true l i w s o h = refl
-  chosen false false false l i w s o h = h
-
-  pub inserted : (es : List (K × X)) → lookup t (insert_entry eq es k v) ≡ (if t k then Some v else lookup t es)
-  inserted [] = start (t k)
-    where
-      start : (b : Bool) → cond b (Some v) None ≡ (if b then Some v else None)
-      start true = refl
-      start false = refl
-  inserted (e ∷ es) = pulled e es (eq k e.0) ∙ chosen (eq k e.0) (t k) (t e.0) (lookup t es) (lookup t (insert_entry eq es k v)) e.1 (same e.0) (one e.0) (inserted es)
-
--- what is no binder
-pub unmet : (a v r : Bool) → false ≡ v → a ≡ (a || (v && r))
-unmet true v r e = refl
-unmet false v r e = ap (λ x. x && r) e
-
--- one identifier after the other
-or_assoc : (a b c : Bool) → ((a || b) || c) ≡ (a || (b || c))
-or_assoc true b c = refl
-or_assoc false b c = refl
-
-module _ {A B : Type 0} (open_now open_then : Bool) (f : A → B) (p : B → Bool) (xs : List A) where
-  pub next_bound : (i : ℕ) (x : A) (z : Bool) → i < length xs → x ≡ get_or xs i x → open_then ≡ (open_now || p (f x)) → (open_now || list_any p (map f (drop i xs))) ≡ z → (open_then || list_any p (map f (drop (i + 1) xs))) ≡ z
-  next_bound i x z h is e inv =
-      ap (λ o. o || list_any p (map f (drop (i + 1) xs))) e
-      ∙ (or_assoc open_now (p (f x)) (list_any p (map f (drop (i + 1) xs))) ∙ (ap (λ o. open_now || o) next ∙ inv))
-    where
-      next : (p (f x) || list_any p (map f (drop (i + 1) xs))) ≡ list_any p (map f (drop i xs))
-      next = rw (drop-cons xs i x h, ← is, add-one) refl

@@ -29,10 +29,6 @@ module _ (names texts : List Text) (alike : List ℕ) (s : AreSpellings names te
   spelled_so i h = sym (at_map (name_in texts) alike i 0 [] (omega (arith, h, as_many))) ∙ ap (λ ns. name_in ns i) s.spelled
 
 -- ---- one more name
-get_in : {X : Type 0} (xs : List X) (i : ℕ) (x d : X) → slice_get xs i ≡ Some x → (i < length xs) × (get_or xs i d ≡ x)
-get_in [] i x d h = absurd (let z : ⊥ = cc in z)
-get_in (y ∷ xs) zero x d h = (omega arith, let e : y ≡ x = cc in e)
-get_in (y ∷ xs) (suc i) x d h = let r = get_in xs i x d h in (omega (arith, r.0), r.1)
 
 get_before : {X : Type 0} (xs ys : List X) (i : ℕ) (d : X) → i < length xs → get_or (xs ++ ys) i d ≡ get_or xs i d
 get_before [] ys i d h = absurd (omega (arith, h))

@@ -11,7 +11,7 @@ use Rattle.wesl_scope_occurrences.specs.Events.{Event, begins, meets, opens, clo
 use Rattle.wesl_scope_occurrences.specs.Collected.{Collected, last_ended, collecting, collected}
 use Rattle.wesl_scope_occurrences.specs.Laws.{renamed}
 use Rattle.wesl_scope_occurrences.specs.Ways.{told}
-use Rattle.wesl_scope_open.specs.Open.{read_in, or_module, keys_met, declares, is_declared_by}
+use Rattle.wesl_scope_open.specs.Open.{read_in, or_module, keys_met, is_declared_by}
 use Rattle.wesl_scope_open.specs.Named.{event_as}
 use Rattle.wesl_scope_open.specs.Matched.{AreMetBelow}
 use Rattle.wesl_scope_open.specs.Scopes.{Key}

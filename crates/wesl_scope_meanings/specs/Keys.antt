@@ -24,6 +24,7 @@ abbrev pub IsKeyBelow : ℕ → Key → Type 0
 IsKeyBelow n (made.Bound b m) = b < n
 IsKeyBelow n _ = Unit {0}
 
+-- the name in a key
 abbrev pub key_name : scopes.Key → Text
 key_name (scopes.bound b n) = n
 key_name (scopes.free n) = n

@@ -92,9 +92,11 @@ matched_sensed names (closes ∷ es) fs s h = matched_sensed names es fs (sensin
     by (o ∷ os) g = g
 matched_sensed names (ends here i ∷ es) fs s h = matched_sensed names es fs (sensing names s (ends here i)) h
 
+-- without events nothing changes
 pub reads_none : (r : Reader) → Reads [] r r
 reads_none r = record { noted = λ k. k; alike = refl; shown = λ k names texts spelled below s matched is. is }
 
+-- where some events make b of a, and others c of b, all of them, one after the other, make c of a
 pub reads_more : (es fs : List Event) (a b c : Reader) → Reads es a b → Reads fs b c → Reads (es ++ fs) a c
 reads_more es fs a b c x y = record {
   noted = λ k. x.noted (y.noted k);

@@ -28,11 +28,12 @@ number_in (of_module i) = i
 number_in (of_none i) = i
 number_in (by_path n i) = i
 
--- how many paths belong to what is read so, and to all that are
+-- how many paths belong to what is read so: one to what is read by its path, else none
 abbrev pub path_count : Sense → ℕ
 path_count (by_path n i) = 1
 path_count _ = 0
 
+-- how many belong to all that are read so
 abbrev pub path_total : List Sense → ℕ
 path_total [] = 0
 path_total (s ∷ ss) = path_count s + path_total ss
@@ -61,6 +62,7 @@ pub record Sensed : Type 0 where
   -- of each global declaration how many identifiers come before it
   pub starts : List ℕ
 
+-- before the first event nothing is read, and no name is known
 abbrev pub unsensed : Sensed
 unsensed = record { binders = unopened; known = λ n. false; senses = []; starts = [] }
 
@@ -74,6 +76,7 @@ module _ (names : List Text) where
   abbrev pub sense_met : Sensed → Here → Standing → ℕ → Sense
   sense_met s here r i = sense_by (path_total s.senses) (s.binders.reads (name_in names i)) here r i
 
+  -- what the walk knows after one event
   abbrev pub sensing : Sensed → Event → Sensed
   sensing s begins = record { binders = s.binders; known = s.known; senses = s.senses; starts = s.starts ++ length s.senses ∷ [] }
   sensing s (meets here r i) = record {
@@ -86,6 +89,7 @@ module _ (names : List Text) where
   sensing s closes = record { binders = stepped s.binders closes; known = s.known; senses = s.senses; starts = s.starts }
   sensing s (ends here i) = record { binders = stepped s.binders (ends here (name_in names i)); known = s.known; senses = s.senses; starts = s.starts }
 
+  -- what it knows after these events, one after the other
   abbrev pub sensed : Sensed → List Event → Sensed
   sensed s [] = s
   sensed s (e ∷ es) = sensed (sensing s e) es

@@ -10,6 +10,7 @@ use Rattle.wesl_scope_meanings.specs.Sensed.{declared_in, of_block, of_module, o
 use Rattle.wesl_scope_meanings.specs.declared.sense.Sense.{Sense}
 use Rattle.wesl_scope_meanings.specs.declared.sense.Sense.TheVariants as made
 
+-- how an identifier is read, as the code says it
 abbrev pub sense_view : Sense → spec.Sense
 sense_view (made.Declares i b) = declared_in b i.0
 sense_view (made.OfBlock i b) = of_block b i.0
@@ -23,10 +24,12 @@ IsSenseBelow n (declared_in b i) = b < n
 IsSenseBelow n (of_block b i) = b < n
 IsSenseBelow n _ = Unit {0}
 
+-- the first of these paths, if there is one
 abbrev pub first_path : List Path → Option Path
 first_path [] = None
 first_path (p ∷ ps) = Some p
 
+-- what the name x means with this path before it; where there is none, it is free
 abbrev pub by_name : Text → Option Path → Key
 by_name x (Some p) = qualified p x
 by_name x None = free x
@@ -46,6 +49,7 @@ module _ (known : ℕ → Bool) (names : List Text) (paths : List Path) where
   keys_in ss = map key_in ss
 
 -- ---- what an identifier is, apart from what it means
+-- what reading tells apart: names of imports and of global declarations, words, and all other identifiers
 pub data Manner : Type 0 where
   -- the name of an import or of a global declaration
   of_declaration : Manner
@@ -53,14 +57,17 @@ pub data Manner : Type 0 where
   -- a parameter, a local name or a reference: what its name means
   of_meaning : Manner
 
+-- what an identifier is that stands so
 abbrev pub manner_as : Standing → Manner
 manner_as module_name = of_declaration
 manner_as word = of_word
 manner_as _ = of_meaning
 
+-- what an identifier of a module is
 abbrev pub manner_of : {I B : Type 0} → OccurrenceIn I B → Manner
 manner_of o = manner_as o.role
 
+-- what an identifier is that is read so
 abbrev pub manner_in : spec.Sense → Manner
 manner_in (declared_in b i) = of_declaration
 manner_in (of_none i) = of_word

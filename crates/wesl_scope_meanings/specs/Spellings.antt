@@ -5,6 +5,7 @@ use Rattle.wesl_tree_names.specs.Path.{Text}
 use Rattle.wesl_tree_syntax.specs.Unit.{name_in}
 use Rattle.wesl_scope_open.specs.Named.{AreDistinct}
 
+-- `alike` has for each of the names the number of its text among `texts`, where no text stands twice
 pub record AreSpellings (names texts : List Text) (alike : List ℕ) : Type 0 where
   pub apart : AreDistinct texts
   pub below : All (λ k. k < length texts) alike

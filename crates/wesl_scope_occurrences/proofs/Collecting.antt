@@ -1,11 +1,11 @@
 -- What a walk that collects makes of the events of a tree is what the walk over the tree finds.
-use Rattle.std.proofs.Common.{◌≡◌, ℕ, zero, suc, ◌+◌, ◌<◌, Bool, true, false, List, [], ◌∷◌, ◌++◌, length, map, refl, sym, ap, ◌∙◌, arith, append-nil, length-append}
+use Rattle.std.proofs.Common.{◌≡◌, ℕ, zero, suc, ◌+◌, ◌<◌, Bool, true, false, List, [], ◌∷◌, ◌++◌, length, map, refl, sym, ap, ◌∙◌, arith, length-append}
 use Rattle.std.specs.Prelude.{Option, if◌then◌else◌}
 use Rattle.wesl_tree_names.specs.Path.{Path}
 use Rattle.wesl_tree_syntax.specs.Tree.{Role, Label, Forest, end, tree, kind, at, ident, binder, reference, word, text, texts, truth, unary, binary, assignment, space, access, path}
 use Rattle.wesl_scope_occurrences.specs.Occurrences.{occurrences, Standing, module_name, parameter, local, Declares, globally, a_parameter, a_value, Node, node_of, here_in, after_field, standing, declared, referring, occurrence, opened_by, blocks_in}
 use Rattle.wesl_scope_occurrences.specs.Occurrences as stands
-use Rattle.wesl_scope_occurrences.specs.Walk.{Here, Found, State, Fields, numbers_at, opening, ended_as, ended_at, all_ended, closed, named_by, named_after, stepped, or_found, walk, all_of, outermost, start}
+use Rattle.wesl_scope_occurrences.specs.Walk.{Here, Found, State, Fields, numbers_at, opening, ended_as, ended_at, all_ended, closed, named_by, named_after, stepped, walk, all_of, outermost, start}
 use Rattle.wesl_scope_occurrences.specs.Outer.{outers_of, outers_from, outers}
 use Rattle.wesl_scope_occurrences.specs.Events.{Event, begins, meets, opens, closes, ends, Level, level_of, plain_level, of_module, next_part, after_level, is_second, is_some, beginning, within, ending, events_from, events}
 use Rattle.wesl_scope_occurrences.specs.Events.{of_none as of_none_part}

@@ -1,16 +1,9 @@
 -- The names that a walk finds, after those found before.
-use Rattle.std.proofs.Common.{◌≡◌, ℕ, zero, suc, ◌+◌, ◌<◌, List, [], ◌∷◌, ◌++◌, map, length, get_or, take, drop, refl, sym, ap, ◌∙◌, arith, append_assoc, append-nil, length-append, add-one, drop-cons}
-use mathlib.Core.List.{map-map}
-use Rattle.std.proofs.lemmas.List.{map-append, length-map}
-use Rattle.wesl_tree_syntax.specs.Tree.{Label, TreeOf, Tree, Forest, trees, before, end, tree, forest_of, kind, at, ident, text, texts, truth, unary, binary, assignment, space, access, path, identifiers, declaration_node, directive_node}
-use Rattle.wesl_tree_syntax.specs.View.{global_view, directive_view, placed}
-use Rattle.wesl_tree_syntax.specs.declared.span.Spanned.{Spanned}
-use Rattle.wesl_tree_syntax.specs.declared.declaration.GlobalDeclaration.{GlobalDeclaration}
-use Rattle.wesl_tree_syntax.specs.declared.declaration.GlobalDirective.{GlobalDirective}
+use Rattle.std.proofs.Common.{◌≡◌, ℕ, zero, suc, ◌+◌, ◌<◌, List, [], ◌∷◌, ◌++◌, map, length, get_or, take, refl, sym, ap, ◌∙◌, arith, append_assoc, append-nil, add-one}
+use Rattle.std.proofs.lemmas.List.{map-append}
+use Rattle.wesl_tree_syntax.specs.Tree.{Label, Forest, end, tree, kind, at, ident, text, texts, truth, unary, binary, assignment, space, access, path, identifiers}
 use Rattle.wesl_scope_occurrences.specs.Occurrences.{node_of, opened_by, here_in}
-use Rattle.wesl_scope_occurrences.specs.Pieces.{size, starts_from}
-use Rattle.wesl_scope_occurrences.specs.Walk.{Found, Here, State, Fields, numbers_at, opening, ended_at, all_ended, closed, stepped, or_found, walk, walked, all_of, start}
-use Rattle.wesl_scope_occurrences.specs.Views.{occurrence_view}
+use Rattle.wesl_scope_occurrences.specs.Walk.{Found, State, Fields, numbers_at, opening, ended_at, all_ended, closed, stepped, or_found, walk}
 use Rattle.wesl_scope_occurrences.specs.declared.occurrence.Occurrence.{Occurrence}
 
 abbrev named_by : Found → ℕ
@@ -76,52 +69,7 @@ walk_names (tree (space v) children others) fs s = in_tree (space v) children ot
 walk_names (tree (access v) children others) fs s = in_tree (access v) children others fs s (λ gs t. walk_names children gs t) (λ gs t. walk_names others gs t)
 walk_names (tree (path v) children others) fs s = in_tree (path v) children others fs s (λ gs t. walk_names children gs t) (λ gs t. walk_names others gs t)
 
-pub walked_length : (here : Here) (s : State) (t : Tree) → length (walked here s t).found ≡ length s.found + size t
-walked_length here s t =
-    let u : State = walked here s t in
-    let e : length (names u) ≡ length (names s ++ identifiers (before t end)) = ap length (walk_names (before t end) (all_of here) s) in
-    omega (arith, e, length-append (names s) (identifiers (before t end)), length-map u.found named_by, length-map s.found named_by)
-
--- ---- where global declarations begin
-
-pub trees_forest : {I : Type 0} (ts : List (TreeOf I)) → trees (forest_of ts) ≡ ts
-trees_forest [] = refl
-trees_forest (t ∷ ts) = ap (λ us. t ∷ us) (trees_forest ts)
-
-abbrev pub global_tree : Spanned GlobalDeclaration → Tree
-global_tree = placed global_view declaration_node
-
-abbrev pub globals_in : List (Spanned GlobalDeclaration) → List Tree
-globals_in xs = map global_tree xs
-
-placed_size : (x : Spanned GlobalDeclaration) → size (global_tree x) ≡ size (global_view x.node)
-placed_size x = ap length (append-nil (identifiers (before (global_view x.node) end)))
-
--- one declaration further
-pub next_start : (here : Here) (s t : State) (xs : List (Spanned GlobalDeclaration)) (i : ℕ) (x : Spanned GlobalDeclaration) (ms ns : List ℕ) (n : ℕ) (z : List ℕ) → i < length xs → x ≡ get_or xs i x → n ≡ length s.found → ns ≡ ms ++ n ∷ []
-    → t ≡ walked here s (global_view x.node) → ms ++ starts_from (length s.found) (globals_in (drop i xs)) ≡ z → ns ++ starts_from (length t.found) (globals_in (drop (i + 1) xs)) ≡ z
-next_start here s t xs i x ms ns n z bound is n_is ns_is t_is inv =
-    let rest : List Tree = globals_in (drop (i + 1) xs) in
-    let ahead : globals_in (drop i xs) ≡ global_tree x ∷ rest = rw (drop-cons xs i x bound, ← is, add-one) refl in
-    let more : length t.found ≡ length s.found + size (global_tree x) =
-    ap (λ u. length u.found) t_is ∙ (walked_length here s (global_view x.node) ∙ ap (λ k. length s.found + k) (sym (placed_size x))) in
-    ap (λ ks. ks ++ starts_from (length t.found) rest) ns_is
-    ∙ (append_assoc ms (n ∷ []) (starts_from (length t.found) rest)
-    ∙ (ap (λ k. ms ++ k ∷ starts_from (length t.found) rest) n_is
-    ∙ (ap (λ k. ms ++ length s.found ∷ starts_from k rest) more
-    ∙ (ap (λ ts. ms ++ starts_from (length s.found) ts) (sym ahead) ∙ inv))))
-
 -- ---- the words of a directive
-
-pub words_found : (here : Here) (s : State) (xs : List Occurrence) (os : List ℕ) (d : Spanned GlobalDirective) → s ≡ start → record { found = map occurrence_view xs; outer = os } ≡ walked here s (directive_view d.node)
-    → map (λ o. o.ident.0) xs ≡ identifiers (before (placed directive_view directive_node d) end)
-words_found here s xs os d first e =
-    let t : Tree = directive_view d.node in
-    let apart : map named_by (map occurrence_view xs) ≡ map (λ (o : Occurrence). o.ident.0) xs = simp map-map in
-    sym apart
-    ∙ (ap names e
-    ∙ (walk_names (before t end) (all_of here) s
-    ∙ (ap (λ u. names u ++ identifiers (before t end)) first ∙ sym (append-nil (identifiers (before t end))))))
 
 next_ident : (xs : List Occurrence) (i : ℕ) (x : Occurrence) → i < length xs → x ≡ get_or xs i x → map (λ o. o.ident.0) (take (suc i) xs) ≡ map (λ o. o.ident.0) (take i xs) ++ x.ident.0 ∷ []
 next_ident [] i x h is = absurd (omega arith)

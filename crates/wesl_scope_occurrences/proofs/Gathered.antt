@@ -1,5 +1,5 @@
 -- What a walk that collects leaves of a module are its identifiers.
-use Rattle.std.proofs.Common.{◌≡◌, ◌<◌, ◌∙◌, ap, refl, sym, subst, List, ℕ, true, length, map}
+use Rattle.std.proofs.Common.{◌≡◌, ◌<◌, ◌∙◌, ap, sym, subst, List, ℕ, true, length, map}
 use Rattle.std.specs.List.{All}
 use Rattle.wesl_tree_syntax.specs.Tree.{forest_below}
 use Rattle.wesl_tree_syntax.specs.Unit.{UnitView, forest_of_unit, trees_of}

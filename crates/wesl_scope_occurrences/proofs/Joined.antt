@@ -4,10 +4,10 @@ use Rattle.std.specs.Prelude.{Option, Some, None}
 use Rattle.std.proofs.lemmas.List.{map-append, length-map, append-nil}
 use Rattle.std.proofs.lemmas.Grind.{common_steps}
 use Rattle.std.proofs.lemmas.Bool.{cases_lt}
-use Rattle.wesl_tree_syntax.specs.Tree.{Role, Label, Tree, Forest, end, tree, kind, at, ident, text, texts, truth, unary, binary, assignment, space, access, path, binder, reference, word}
+use Rattle.wesl_tree_syntax.specs.Tree.{Role, Label, Forest, end, tree, kind, at, ident, text, texts, truth, unary, binary, assignment, space, access, path, binder, reference, word}
 use Rattle.wesl_scope_occurrences.specs.Occurrences.{Block, OccurrenceIn, Occurrence, Shape, of_function, of_parameter, of_body, of_holder, of_loop, of_continuing, of_for, of_words, of_custom, of_type, of_value, of_globals, of_other, shape_of, opens, Surroundings, Declares, globally, a_parameter, a_value, Node, node_by, first_or, others_of, numbered, here_in, after_field, occurrence, count, blocks_in, blocks_at, occurrences_from}
 use Rattle.wesl_tree_names.specs.Path.{Path}
-use Rattle.wesl_scope_occurrences.specs.Walk.{Found, Here, State, Fields, numbers_at, opening, ended_as, ended_at, all_ended, closed, named_by, named_after, stepped, walk, walked, all_of, outermost, start}
+use Rattle.wesl_scope_occurrences.specs.Walk.{Found, Here, State, Fields, numbers_at, opening, ended_as, ended_at, all_ended, closed, named_by, named_after, stepped, walk, all_of, outermost, start}
 use Rattle.std.specs.List.{All}
 use Rattle.wesl_scope_occurrences.specs.Views.{occurrence_view}
 use Rattle.wesl_scope_occurrences.specs.declared.occurrence.Occurrence as found
@@ -661,10 +661,6 @@ joined (tree (path v) children others) fs s so nw nm =
 -- a whole module
 pub whole_joined : (f : Forest) → Joined (all_of outermost) start f (walk (all_of outermost) start f)
 whole_joined f = joined f (all_of outermost) start (record { some = omega arith; inside = tt; nested = λ k some l. absurd (omega arith) }) (tt, (omega arith, omega arith)) tt
-
-pub whole_walked : (h : Here) (s s1 s2 s3 : State) (i g d i' g' d' : Tree) → h ≡ outermost → s ≡ start → s1 ≡ walked h s i → s2 ≡ walked h s1 g → s3 ≡ walked h s2 d → i ≡ i' → g ≡ g' → d ≡ d'
-    → s3 ≡ walked outermost (walked outermost (walked outermost start i') g') d'
-whole_walked h s s1 s2 s3 i g d i' g' d' eh es e1 e2 e3 ei eg ed = rw (e3, e2, e1, es, ei, eg, ed, eh) refl
 
 pub blocks_there : (n : ℕ) (xs : List found.Occurrence) → Each (InBlocks n) (map occurrence_view xs) → All (λ o. o.block < n) xs
 blocks_there n [] h k d l = absurd (omega arith)

@@ -1,6 +1,5 @@
 -- The walk over a whole module.
 use Rattle.std.proofs.Common.{◌≡◌, ℕ, false, List, [], ◌∷◌, ◌++◌, length, map, append-nil, refl, sym, ap, ◌∙◌, subst}
-use Rattle.wesl_tree_names.specs.Path.{Path}
 use Rattle.wesl_tree_syntax.specs.Tree.{Tree, Forest, before, end, identifiers, directive_node}
 use Rattle.wesl_tree_syntax.specs.View.{directive_view, placed}
 use Rattle.wesl_tree_syntax.specs.declared.span.Spanned.{Spanned}

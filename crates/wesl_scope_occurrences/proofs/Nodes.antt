@@ -3,7 +3,7 @@ use Rattle.std.proofs.Common.{◌≡◌, ◌⊎◌, inl, inr, ℕ, suc, true, fa
 use Rattle.std.specs.Prelude.{Some, None, Option}
 use Rattle.std.specs.Box.{box_value}
 use Rattle.std.specs.Global.{Box, Vec}
-use Rattle.wesl_tree_syntax.specs.Tree.{Kind, Tree, parameter as parameter_kind, import_statement, if_attribute, forest_of, branch, statements, loop, continuing, for_loop, compound, declaration, function, literal, binder, leaf, kind, absent, present, list, parameters, reference, type_expression}
+use Rattle.wesl_tree_syntax.specs.Tree.{Kind, Tree, parameter as parameter_kind, import_statement, forest_of, branch, statements, loop, continuing, for_loop, compound, declaration, function, literal, binder, leaf, kind, absent, present, list, parameters, reference, type_expression}
 use Rattle.wesl_tree_syntax.specs.View.{kind_tree, literal_tree, attributes_tree, ident_tree, optional, listed, type_view, parameter_view, expression_tree, statement_tree, statement_view, path_tree, boxed_path}
 use Rattle.wesl_tree_syntax.specs.declared.attribute.Attribute.{Attribute}
 use Rattle.wesl_tree_syntax.specs.declared.expression.Expression.{Expression}

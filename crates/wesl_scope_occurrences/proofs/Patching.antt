@@ -1,7 +1,7 @@
 -- Identifiers whose paths were left out get them back, one after the other.
-use Rattle.std.proofs.Common.{◌≡◌, ℕ, zero, suc, ◌+◌, ◌<◌, ◌≤◌, List, [], ◌∷◌, ◌++◌, length, get_or, set, map, refl, sym, ap, ◌∙◌, subst, arith}
-use Rattle.std.specs.Prelude.{Option, Some, None}
-use Rattle.wesl_tree_names.specs.Path.{Path, path_view}
+use Rattle.std.proofs.Common.{◌≡◌, ℕ, zero, suc, ◌+◌, ◌<◌, ◌≤◌, List, [], ◌∷◌, ◌++◌, length, get_or, set, map, refl, sym, ap, ◌∙◌, arith}
+use Rattle.std.specs.Prelude.{Some, None}
+use Rattle.wesl_tree_names.specs.Path.{Path}
 use Rattle.wesl_scope_occurrences.specs.Occurrences.{Standing, module_name, parameter, local, reference, word}
 use Rattle.wesl_scope_occurrences.specs.Walk.{Found}
 use Rattle.wesl_scope_occurrences.specs.Events.{Event, begins, meets, opens, closes, ends, path_met, paths_met}
@@ -9,7 +9,6 @@ use Rattle.wesl_scope_occurrences.specs.Collected.{Collected, collecting, collec
 use Rattle.wesl_scope_occurrences.specs.Walk.{ended_as, ended_at}
 use Rattle.wesl_scope_occurrences.specs.Bare.{bare, bare_as, path_place, path_places, paths_in, with_path, fewer, first_partly, partly}
 use Rattle.std.proofs.Common.{append_assoc, append-nil, length-append}
-use Rattle.std.proofs.lemmas.List.{length-map}
 use Rattle.wesl_scope_occurrences.specs.Views.{occurrence_view}
 use Rattle.wesl_scope_occurrences.specs.declared.occurrence.Occurrence.{Occurrence}
 

@@ -1,12 +1,11 @@
 -- Where the global declarations of a module begin, among the events.
-use Rattle.std.proofs.Common.{◌≡◌, ℕ, zero, suc, ◌+◌, Bool, true, false, List, [], ◌∷◌, ◌++◌, length, map, refl, sym, ap, ◌∙◌, subst, arith, append_assoc, append-nil, length-append}
+use Rattle.std.proofs.Common.{◌≡◌, ℕ, suc, ◌+◌, Bool, true, false, List, [], ◌∷◌, ◌++◌, length, map, refl, sym, ap, ◌∙◌, arith, append_assoc, append-nil, length-append}
 use Rattle.wesl_tree_syntax.specs.Tree.{declarations, Label, Forest, TreeOf, before, trees, identifiers, end, tree, kind, at, ident, text, texts, truth, unary, binary, assignment, space, access, path}
-use Rattle.wesl_scope_occurrences.specs.Occurrences.{Standing, Field, fields, shape_of, here_in, standing, opened_by, blocks_in, Shape}
+use Rattle.wesl_scope_occurrences.specs.Occurrences.{Standing, Field, fields, shape_of, here_in, standing, opened_by, blocks_in}
 use Rattle.wesl_scope_occurrences.specs.Occurrences as has
 use Rattle.wesl_scope_occurrences.specs.Pieces.{size, starts_from, starts}
-use Rattle.wesl_scope_occurrences.specs.Walk.{Here, ended_at, outermost}
-use Rattle.wesl_scope_occurrences.specs.Events.{Event, begins, meets, opens, closes, ends, Part, in_second, of_module, Level, part_of, parts_of, level_of, next_part, other_parts, after_level, is_second, is_of_module, is_some, beginning, within, ending, plain_level, events_from, events_in, events}
-use Rattle.wesl_scope_occurrences.specs.Events as parts
+use Rattle.wesl_scope_occurrences.specs.Walk.{Here, outermost}
+use Rattle.wesl_scope_occurrences.specs.Events.{Event, begins, meets, opens, closes, ends, Part, of_module, Level, part_of, parts_of, level_of, next_part, other_parts, after_level, is_second, is_of_module, is_some, beginning, within, ending, plain_level, events_from, events_in, events}
 use Rattle.wesl_scope_occurrences.specs.Collected.{Collected, nothing, last_ended, collecting, collected}
 use Rattle.wesl_scope_occurrences.proofs.Collecting.{collected_append, last_length, module_level}
 use Rattle.wesl_tree_syntax.specs.Unit.{UnitOf, forest_of_unit}

@@ -8,7 +8,6 @@ use Rattle.wesl_tree_syntax.specs.Tree.{Tree, Forest, before, end}
 use Rattle.wesl_tree_syntax.specs.View.{global_view, declarations_tree}
 use Rattle.wesl_tree_syntax.specs.declared.span.Spanned.{Spanned}
 use Rattle.wesl_tree_syntax.specs.declared.declaration.GlobalDeclaration.{GlobalDeclaration}
-use Rattle.wesl_scope_occurrences.specs.Occurrences.{Standing}
 use Rattle.wesl_scope_occurrences.specs.Walk.{Here}
 use Rattle.wesl_scope_occurrences.specs.Outer.{outers_in}
 use Rattle.wesl_scope_occurrences.specs.Events.{Event, begins, meets, opens, closes, ends, within, path_met, paths_met, Level, plain_level, of_module, events_in}

@@ -1,12 +1,12 @@
 -- The events of a tree, told one after the other.
 use Rattle.std.proofs.Common.{◌≡◌, ℕ, zero, suc, ◌+◌, Bool, true, false, List, [], ◌∷◌, ◌++◌, length, refl, sym, ap, ◌∙◌, arith, append_assoc, append-nil, length-append}
-use Rattle.std.specs.Prelude.{Option, Some, None}
+use Rattle.std.specs.Prelude.{Option}
 use Rattle.wesl_tree_names.specs.Path.{Path}
 use Rattle.wesl_tree_syntax.specs.Tree.{Role, Label, Tree, Forest, before, end, tree, kind, at, ident, binder, reference, word, text, texts, truth, unary, binary, assignment, space, access, path}
-use Rattle.wesl_scope_occurrences.specs.Occurrences.{Standing, Declares, globally, a_parameter, a_value, Node, node_of, here_in, standing, referring, declared, opened_by, blocks_in}
-use Rattle.wesl_scope_occurrences.specs.Walk.{Here, numbers_at}
+use Rattle.wesl_scope_occurrences.specs.Occurrences.{Standing, Declares, globally, a_parameter, a_value, Node, here_in, standing, referring, declared, opened_by, blocks_in}
+use Rattle.wesl_scope_occurrences.specs.Walk.{Here}
 use Rattle.wesl_scope_occurrences.specs.Outer.{outers_of, outers_from, outers_in}
-use Rattle.wesl_scope_occurrences.specs.Events.{Event, begins, meets, opens, closes, ends, Level, level_of, plain_level, next_part, after_level, is_second, is_some, beginning, within, ending, events_from, events_in}
+use Rattle.wesl_scope_occurrences.specs.Events.{Event, begins, meets, opens, closes, Level, level_of, plain_level, next_part, after_level, is_second, is_some, beginning, within, ending, events_from, events_in}
 use Rattle.wesl_scope_occurrences.proofs.Outers.{few_length, opened_few, outers_many}
 
 -- what is told so far, and of each block the one round it

@@ -5,10 +5,12 @@ use Rattle.wesl_scope_occurrences.specs.Occurrences.{Standing, reference}
 use Rattle.wesl_scope_occurrences.specs.Walk.{Found}
 use Rattle.wesl_scope_occurrences.specs.Events.{path_met}
 
+-- how an identifier stands without its path: a reference with a path stands as one that has none
 abbrev pub bare_as : Standing → Standing
 bare_as (reference (Some path)) = reference None
 bare_as r = r
 
+-- an identifier without its path
 abbrev pub bare : Found → Found
 bare o = record o { role = bare_as o.role }
 

@@ -38,18 +38,22 @@ pub record Level : Type 0 where
   pub parts : List Part
   pub is_global : Bool
 
+-- what a field is to its node, by where it stands
 abbrev pub part_of : Field → Part
 part_of below = in_second
 part_of _ = of_none
 
+-- what each field of a node with this label is to it, as far as `fields` names them; a label that is no kind has none
 abbrev pub parts_of : {I : Type 0} → LabelOf I → List Part
 parts_of (kind k) = map part_of (fields (shape_of k))
 parts_of _ = []
 
+-- whether the field stands in the second block of the node
 abbrev pub is_second : Part → Bool
 is_second in_second = true
 is_second _ = false
 
+-- whether the field holds the global declarations of the module
 abbrev pub is_of_module : Part → Bool
 is_of_module of_module = true
 is_of_module _ = false
@@ -58,13 +62,16 @@ is_of_module _ = false
 abbrev pub level_of : {I : Type 0} → LabelOf I → ForestOf I → ℕ → Here → Part → Level
 level_of l children q here part = record { node = node_of l children (numbers_at q) here; parts = parts_of l; is_global = is_of_module part }
 
+-- a node of which nothing is to be said but where it stands and what its next fields are to it
 abbrev pub plain_level : Here → List Part → Level
 plain_level here parts = record { node = plain here; parts = parts; is_global = false }
 
+-- what the next field is to the node; of a field past the end of the list nothing is said
 abbrev pub next_part : List Part → Part
 next_part [] = of_none
 next_part (p ∷ ps) = p
 
+-- what the fields after it are
 abbrev pub other_parts : List Part → List Part
 other_parts [] = []
 other_parts (p ∷ ps) = ps
@@ -78,6 +85,7 @@ abbrev pub is_some : ℕ → Bool
 is_some zero = false
 is_some (suc n) = true
 
+-- the path of an identifier that stands so: one, where it is a reference with a path, else none
 abbrev pub path_met : Standing → List Path
 path_met (reference (Some path)) = path ∷ []
 path_met _ = []

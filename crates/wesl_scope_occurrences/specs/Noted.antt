@@ -17,6 +17,7 @@ module _ {H : Type 0} where
   abbrev pub IfKept : Walk H → Type 0 → Type 0
   IfKept w P = w.is_refused ≡ false → P
 
+  -- the paths that the walk has noted, in document order
   abbrev pub paths_of : Walk H → List Path
   paths_of w = map (λ p. path_view p.now) w.paths.items
 

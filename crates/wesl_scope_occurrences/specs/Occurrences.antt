@@ -31,6 +31,7 @@ is_binder (local e) = true
 is_binder (reference by) = false
 is_binder word = false
 
+-- whether an identifier is a reference, with or without a path
 abbrev pub is_reference : Standing → Bool
 is_reference (reference by) = true
 is_reference _ = false
@@ -56,6 +57,7 @@ pub record OccurrenceIn (I B : Type 0) : Type 0 where
   -- whether it lies in the arguments of a custom attribute
   pub excused : Bool
 
+-- an identifier of a module, where a block is told by its way
 abbrev pub Occurrence : Type 0 → Type 0
 Occurrence I = OccurrenceIn I Block
 
@@ -83,7 +85,7 @@ pub data Shape : Type 0 where
   of_loop : Shape
   of_continuing : Shape
   of_for : Shape
-  -- a condition, an import, a directive: all names in it are words
+  -- a condition, an import, a directive: each name in it that is no binder is a word
   of_words : Shape
   -- a custom attribute
   of_custom : Shape
@@ -94,6 +96,7 @@ pub data Shape : Type 0 where
   of_globals : Shape
   of_other : Shape
 
+-- what matters of a node of this kind; of the kinds that are not named nothing does
 abbrev pub shape_of : Kind → Shape
 shape_of function = of_function
 shape_of parameter_kind = of_parameter
@@ -180,6 +183,7 @@ pub record Node (B : Type 0) : Type 0 where
   -- of a type expression its path
   pub path : Option Path
 
+-- what a name is that stands directly in a node of this shape
 abbrev pub declares_in : Shape → Declares
 declares_in of_parameter = a_parameter
 declares_in of_value = a_value
@@ -195,6 +199,7 @@ abbrev pub path_of : {I : Type 0} → Shape → ForestOf I → Option Path
 path_of of_type (tree _ (tree (path p) _ _) _) = Some p
 path_of _ _ = None
 
+-- how a reference stands: as a word in a condition, an import or a directive, else with its path, if it has one
 abbrev pub referring : Bool → Option Path → Standing
 referring true by = word
 referring false by = reference by
@@ -211,9 +216,11 @@ module _ {B : Type 0} where
   entered of_custom own here = record here { excused = true }
   entered _ own here = here
 
+  -- the same surroundings in block b of a function
   abbrev pub standing_in : B → Surroundings B → Surroundings B
   standing_in b here = record here { block = b; is_local = true }
 
+  -- the surroundings of a field, by where it stands in its node
   abbrev pub field_in : Blocks B → Surroundings B → Field → Surroundings B
   field_in bs here around = here
   field_in bs here in_module = record here { block = bs.whole; is_local = false }
@@ -235,18 +242,22 @@ module _ {B : Type 0} where
     path = path_of s children;
   }
 
+  -- a node with this label and these children, which opens these blocks; a label that is no kind, as a span, says nothing
   abbrev pub node_of : {I : Type 0} → LabelOf I → ForestOf I → Blocks B → Surroundings B → Node B
   node_of (kind k) children bs here = node_by (shape_of k) children bs here
   node_of _ children bs here = plain here
 
+  -- the first of these surroundings, or `here` where there are none
   abbrev pub first_or : Surroundings B → List (Surroundings B) → Surroundings B
   first_or here [] = here
   first_or here (x ∷ xs) = x
 
+  -- these surroundings without the first
   abbrev pub others_of : List (Surroundings B) → List (Surroundings B)
   others_of [] = []
   others_of (x ∷ xs) = xs
 
+  -- the same surroundings in the global declaration of this number, where there is one
   abbrev pub numbered : Option ℕ → Surroundings B → Surroundings B
   numbered None here = here
   numbered (Some n) here = record here { declaration = Some n }
@@ -271,9 +282,11 @@ module _ {B : Type 0} where
   standing reference_role node e = referring (here_in node).words node.path
   standing word_role node e = word
 
+  -- the identifier x in the next field of a node, at place p, where that node has ended at place e
   abbrev pub occurrence : {I : Type 0} → Role → I → Node B → ℕ → ℕ → OccurrenceIn I B
   occurrence r x node p e = record { role = standing r node e; name = x; place = p; block = (here_in node).block; declaration = (here_in node).declaration; excused = (here_in node).excused }
 
+-- how many blocks a node with this label opens
 abbrev pub opened_by : {I : Type 0} → LabelOf I → ℕ
 opened_by (kind k) = opens (shape_of k)
 opened_by _ = 0

@@ -12,6 +12,7 @@ outers_of zero q b = []
 outers_of (suc zero) q b = b ∷ []
 outers_of (suc (suc n)) q b = b ∷ q ∷ []
 
+-- the numbers of the blocks of a node, where q blocks open before
 abbrev pub numbers_at : ℕ → Blocks ℕ
 numbers_at q = record { own = q; below_own = suc q; whole = 0 }
 

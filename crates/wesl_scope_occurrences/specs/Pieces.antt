@@ -14,6 +14,7 @@ module _ {I : Type 0} where
   cut [] xs = []
   cut (t ∷ ts) xs = take (size t) xs ∷ cut ts (drop (size t) xs)
 
+  -- the global declarations of a module
   abbrev pub declarations_in : UnitOf I → List (TreeOf I)
   declarations_in u = trees u.declarations.children
 

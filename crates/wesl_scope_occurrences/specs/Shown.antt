@@ -1,11 +1,10 @@
 -- What a collector shows of what is collected: each identifier without its path, and where those stand that have one.
-use Rattle.std.specs.Prelude.{◌≡◌, ℕ, zero, suc, refl, false, Some, None, List, [], ◌∷◌, ◌++◌, length, map}
+use Rattle.std.specs.Prelude.{◌≡◌, ℕ, refl, false, List, [], ◌∷◌, ◌++◌, length, map}
 use Rattle.std.proofs.Common.{sym, subst}
-use Rattle.wesl_tree_names.specs.Path.{Path}
-use Rattle.wesl_scope_occurrences.specs.Occurrences.{Standing, local, reference}
-use Rattle.wesl_scope_occurrences.specs.Walk.{Found, ended_at}
+use Rattle.wesl_scope_occurrences.specs.Occurrences.{Standing, local}
+use Rattle.wesl_scope_occurrences.specs.Walk.{ended_at}
 use Rattle.wesl_scope_occurrences.specs.Events.{Event}
-use Rattle.wesl_scope_occurrences.specs.Bare.{bare, path_place, paths_in, path_places}
+use Rattle.wesl_scope_occurrences.specs.Bare.{bare, path_place, path_places}
 use Rattle.wesl_scope_occurrences.specs.Collected.{Collected, collecting, collected}
 use Rattle.wesl_scope_occurrences.specs.Views.{occurrence_view}
 use Rattle.wesl_scope_occurrences.specs.declared.collector.Collector.{Collector}
@@ -15,10 +14,12 @@ abbrev pub name_place : ℕ → Standing → List ℕ
 name_place p (local e) = p ∷ []
 name_place p _ = []
 
+-- these places, the last one first
 abbrev pub backwards : List ℕ → List ℕ
 backwards [] = []
 backwards (p ∷ ps) = backwards ps ++ p ∷ []
 
+-- the collector has what is collected: the identifiers without their paths, and the places of those that have one
 pub record Shows (k : Collector) (c : Collected) : Type 0 where
   pub found : map occurrence_view k.found.items ≡ map bare c.found
   pub qualified : k.qualified.items ≡ path_places 0 c.found
@@ -60,9 +61,11 @@ collected_both : (c : Collected) (es fs : List Event) → collected c (es ++ fs)
 collected_both c [] fs = refl
 collected_both c (e ∷ es) fs = collected_both (collecting c e) es fs
 
+-- without events nothing changes
 pub collects_none : (k : Collector) → Collects [] k k
 collects_none k = record { noted = λ h. h; shown = λ h c s. s }
 
+-- where some events make b of a, and others d of b, all of them, one after the other, make d of a
 pub collects_more : (es fs : List Event) (a b d : Collector) → Collects es a b → Collects fs b d → Collects (es ++ fs) a d
 collects_more es fs a b d x y = record {
   noted = λ h. x.noted (y.noted h);

@@ -2,6 +2,7 @@
 use Rattle.std.specs.Prelude.{ℕ, ◌<◌, List, [], ◌∷◌, ◌++◌, length, get_or}
 use Rattle.wesl_scope_occurrences.specs.Occurrences.{Block, OccurrenceIn, Occurrence}
 
+-- these ways of the first blocks, and after them those of the next ones, by the number of the block round each
 abbrev pub grown : List Block → List ℕ → List Block
 grown ws [] = ws
 grown ws (b ∷ bs) = grown (ws ++ (length ws ∷ get_or ws b []) ∷ []) bs

@@ -1,9 +1,8 @@
 //! The identifiers that a walk collects.
 ghost use Rattle.std.specs.Prelude.{◌≡◌, ◌++◌, length, map, false};
 ghost use Rattle.wesl_scope_occurrences.specs.Occurrences.{Standing};
-ghost use Rattle.wesl_scope_occurrences.specs.Walk.{ended_at};
 ghost use Rattle.wesl_scope_occurrences.specs.Collected.{nothing};
-ghost use Rattle.wesl_scope_occurrences.specs.Views.{standing_view, occurrence_view};
+ghost use Rattle.wesl_scope_occurrences.specs.Views.{standing_view};
 
 use crate::handler::Handler;
 use crate::here::Here;

@@ -1,5 +1,5 @@
 -- Blocks open before they close, and identifiers at events are those of the trees.
-use Rattle.std.proofs.Common.{◌≡◌, ℕ, zero, suc, ◌+◌, ◌<◌, Bool, true, false, ◌&&◌, List, [], ◌∷◌, ◌++◌, length, refl, sym, subst}
+use Rattle.std.proofs.Common.{◌≡◌, ℕ, zero, suc, ◌+◌, ◌<◌, Bool, true, false, ◌&&◌, List, [], ◌∷◌, ◌++◌, refl, sym, subst}
 use Rattle.std.proofs.lemmas.Bool.Decides.{Decides-ltb}
 use Rattle.wesl_tree_syntax.specs.Tree.{Role, LabelOf, ForestOf, Forest, end, tree, kind, at, ident, binder, reference, word, text, texts, truth, unary, binary, assignment, space, access, path, label_below, forest_below}
 use Rattle.wesl_tree_syntax.specs.Unit.{UnitOf, forest_of_unit}
@@ -7,7 +7,7 @@ use Rattle.wesl_scope_occurrences.specs.Occurrences.{Standing, module_name, para
 use Rattle.wesl_scope_occurrences.specs.Walk.{Here, outermost}
 use Rattle.wesl_scope_occurrences.specs.Events.{EventOf, begins, meets, opens, closes, ends, Level, of_none, of_module, next_part, is_second, is_some, beginning, within, ending, after_level, plain_level, events_from, events}
 use Rattle.wesl_tree_names.specs.Path.{Text}
-use Rattle.wesl_scope_open.specs.Open.{Readings, Open, with_visible, taken_back, declaring, after}
+use Rattle.wesl_scope_open.specs.Open.{Open, declaring}
 use Rattle.wesl_scope_open.specs.Matched.{AreMatched, AreMetSo, AreMetBelow}
 use Rattle.wesl_scope_open.proofs.Runs.{append_again, append_end}
 use Rattle.wesl_scope_open.proofs.Forests.{is_ident, shape_in, Seen, a_binder, a_reference, a_word, no_ident, seen, level_by, events_unfold}
@@ -166,15 +166,3 @@ still_open module_name b x s = refl
 still_open (local e) b x s = refl
 still_open (reference_standing y) b x s = refl
 still_open word_standing b x s = refl
-
-pub matched_then : (es fs : List (EventOf Text)) (s : Open) → AreMatched (length s.outer) (es ++ fs) → AreMatched (length (after s es).outer) fs
-matched_then [] fs s h = h
-matched_then (begins ∷ es) fs s h = matched_then es fs s h
-matched_then (meets here r x ∷ es) fs s h = matched_then es fs (declaring r here.block x s) (subst (λ os. AreMatched (length os) (es ++ fs)) (sym (still_open r here.block x s)) h)
-matched_then (opens ∷ es) fs s h = matched_then es fs (record { reads = s.reads; outer = s.reads ∷ s.outer }) h
-matched_then (closes ∷ es) fs s h = matched_then es fs (taken_back s.outer s) (by s.outer h)
-  where
-    by : (os : List Readings) → AreMatched (length os) (closes ∷ (es ++ fs)) → AreMatched (length (taken_back os s).outer) (es ++ fs)
-    by [] g = absurd g
-    by (o ∷ os) g = g
-matched_then (ends here x ∷ es) fs s h = matched_then es fs (record { reads = with_visible x here.block s.reads; outer = s.outer }) h

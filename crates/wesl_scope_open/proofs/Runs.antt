@@ -145,9 +145,6 @@ apart c w d = by (bytes_eq c w) refl
     by true e = absurd (d ((bytes_eq-Decides c w).0 e))
     by false e = e
 
-apart_numbers : (c w : Block) → number_of c ≡ number_of w → number_of c < number_of w → ⊥
-apart_numbers c w e h = omega (arith, e, h)
-
 pub elsewhere : (v : Bool) (m n : Text) (c w : Block) → (c ≡ w → ⊥) → (v && (bytes_eq m n && bytes_eq c w)) ≡ false
 elsewhere v m n c w d = ap (λ t. v && (bytes_eq m n && t)) (apart c w d) ∙ (ap (λ t. v && t) (and_none (bytes_eq m n)) ∙ and_none v)
 

@@ -436,9 +436,6 @@ airy_of t h = let a = allowed t h in ap₂ (λ x y. x && y) (label_airy t.label 
 attributes_airy : (xs : List (Spanned Attribute)) → airy (forest_of (map (placed attribute_view attribute_node) xs)) ≡ true
 attributes_airy xs = calm_airy (forest_of (map (placed attribute_view attribute_node) xs)) (attributes_calm xs)
 
-expression_airy : (e : Expression) → IsAiry (expression_view e)
-expression_airy e = airy_of (expression_view e) (expression_still e)
-
 type_airy : (t : TypeExpression) → IsAiry (type_view t)
 type_airy t = airy_of (type_view t) (type_still t)
 

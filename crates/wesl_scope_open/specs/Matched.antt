@@ -18,6 +18,7 @@ IsMetSo P (meets here r x) = P x
 IsMetSo P (ends here x) = P x
 IsMetSo P _ = Unit {0}
 
+-- the identifier of each of these events is such
 abbrev pub AreMetSo : {I : Type 0} → (I → Type 0) → List (EventOf I) → Type 0
 AreMetSo P [] = Unit {0}
 AreMetSo P (e ∷ es) = IsMetSo P e × AreMetSo P es

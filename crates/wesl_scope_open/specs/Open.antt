@@ -25,6 +25,7 @@ unopened = record { reads = λ n. None; outer = [] }
 abbrev pub with_visible : Text → ℕ → Readings → Readings
 with_visible x b reads = λ n. if bytes_eq x n then Some b else reads n
 
+-- names read again what they read where the innermost open block was opened; where none is open, nothing changes
 abbrev pub taken_back : List Readings → Open → Open
 taken_back [] s = s
 taken_back (r ∷ rs) s = record { reads = r; outer = rs }
@@ -34,6 +35,7 @@ abbrev pub declaring : Standing → ℕ → Text → Open → Open
 declaring parameter b x s = record { reads = with_visible x b s.reads; outer = s.outer }
 declaring _ b x s = s
 
+-- what is read after one event: a local name is visible once its declaration has ended
 abbrev pub stepped : Open → EventOf Text → Open
 stepped s begins = s
 stepped s (meets here r x) = declaring r here.block x s
@@ -41,6 +43,7 @@ stepped s opens = record { reads = s.reads; outer = s.reads ∷ s.outer }
 stepped s closes = taken_back s.outer s
 stepped s (ends here x) = record { reads = with_visible x here.block s.reads; outer = s.outer }
 
+-- what is read after these events, one after the other
 abbrev pub after : Open → List (EventOf Text) → Open
 after s [] = s
 after s (e ∷ es) = after (stepped s e) es
@@ -68,6 +71,7 @@ key_met known s here (reference (Some path)) x = qualified path x
 key_met known s here (reference None) x = or_module (known x) x (read_in here (s.reads x))
 key_met known s here word x = free x
 
+-- what the identifier means that an event meets; other events meet none
 abbrev pub met : (Text → Bool) → Open → EventOf Text → List Key
 met known s (meets here r x) = key_met known s here r x ∷ []
 met known s _ = []
@@ -77,6 +81,7 @@ abbrev pub keys_met : (Text → Bool) → Open → List (EventOf Text) → List 
 keys_met known s [] = []
 keys_met known s (e ∷ es) = met known s e ++ keys_met known (stepped s e) es
 
+-- whether an identifier is the name n of an import or of a global declaration
 abbrev pub declares : Text → Occurrence Text → Bool
 declares n o = is_module_name o.role && bytes_eq o.name n
 
@@ -84,11 +89,12 @@ declares n o = is_module_name o.role && bytes_eq o.name n
 abbrev pub is_declared_by : List (Occurrence Text) → Text → Bool
 is_declared_by all n = list_any (declares n) all
 
--- the same keys, where the number of a block stands for it: the module's is 0
+-- the number of a block: the module's is 0
 abbrev pub number_of : Block → ℕ
 number_of [] = 0
 number_of (k ∷ outer) = k
 
+-- the same key, where the number of its block, if it has one, stands for that block
 abbrev pub by_number : Key → Key
 by_number (bound b n) = of_block (number_of b) n
 by_number (free n) = free n

@@ -6,7 +6,8 @@ use Rattle.wesl_tree_names.specs.Path.{Text, Path}
 use Rattle.wesl_tree_names.specs.PathOrder.{same_path}
 use Rattle.wesl_scope_occurrences.specs.Occurrences.{Block, Standing, module_name, parameter, local, reference, word, Occurrence}
 
--- whether a name that stands so is declared and visible at place p: that of a declaration statement once all of it has come before
+-- whether a name that stands so is declared and visible at place p: that of a declaration statement once all of it has come
+-- before
 abbrev pub is_visible : ℕ → Standing → Bool
 is_visible p module_name = true
 is_visible p parameter = true
@@ -31,16 +32,19 @@ pub data Key : Type 0 where
   free : Text → Key
   qualified : Path → Text → Key
 
+-- whether two keys are equal
 abbrev pub same_key : Key → Key → Bool
 same_key (bound a m) (bound b n) = bytes_eq a b && bytes_eq m n
 same_key (free m) (free n) = bytes_eq m n
 same_key (qualified p m) (qualified q n) = same_path p q && bytes_eq m n
 same_key _ _ = false
 
+-- what the name n means that picks this binder; one that picks none is free
 abbrev pub meaning : Text → Option (Occurrence Text) → Key
 meaning n (Some o) = bound o.block n
 meaning n None = free n
 
+-- what the identifier o means, which stands so among all identifiers of its module
 abbrev pub key_as : List (Occurrence Text) → Occurrence Text → Standing → Key
 key_as all o module_name = bound o.block o.name
 key_as all o parameter = bound o.block o.name
@@ -49,6 +53,7 @@ key_as all o (reference (Some path)) = qualified path o.name
 key_as all o (reference None) = meaning o.name (binder_of all o.name o.place o.block)
 key_as all o word = free o.name
 
+-- what the identifier o means among all identifiers of its module
 abbrev pub key_of : List (Occurrence Text) → Occurrence Text → Key
 key_of all o = key_as all o o.role
 

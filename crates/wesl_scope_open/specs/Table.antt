@@ -19,9 +19,11 @@ module _ {T : Type 0} where
   taken_back_to (changes.Opened ∷ cs) r = r ∷ taken_back_to cs r
   taken_back_to (changes.Read n before ∷ cs) r = taken_back_to cs (set r n before)
 
+  -- what names are read as now
   abbrev pub row : OpenBinders T → RowOf T
   row t = t.reads.items
 
+  -- what names were read as where each open block opened, the innermost first
   abbrev pub outer_rows : OpenBinders T → List (RowOf T)
   outer_rows t = taken_back_to (reverse t.changes.items) (row t)
 

@@ -1,5 +1,5 @@
 -- The edges of a graph, an identifier after the other.
-use Rattle.std.proofs.Common.{◌≡◌, ◌⊎◌, ◌↔◌, ℕ, zero, suc, ◌+◌, ◌<◌, ◌≤◌, ◌++◌, ◌==◌, Bool, true, false, List, [], ◌∷◌, length, get_or, map, take, take_all, refl, sym, ap, ◌∙◌, subst, inl, inr, arith}
+use Rattle.std.proofs.Common.{◌≡◌, ◌⊎◌, ◌↔◌, ℕ, ◌+◌, ◌<◌, ◌≤◌, ◌++◌, ◌==◌, Bool, true, false, List, [], ◌∷◌, length, get_or, map, take, take_all, refl, sym, ap, ◌∙◌, subst, inl, inr}
 use Rattle.std.specs.Prelude.{Option, Some, None, if◌then◌else◌}
 use Rattle.std.specs.List.{Contains}
 use Rattle.std.proofs.lemmas.Bool.Decides.{Decides-eqb}
@@ -9,7 +9,7 @@ use Rattle.wesl_scope_graph.specs.Graphs.{Graph, edges_at, Leads}
 use Rattle.wesl_scope_graph.proofs.Growing.{contains_none, contains_one}
 use Rattle.wesl_scope_graph.proofs.Meeting.{not_both}
 use Rattle.wesl_scope_occurrences.specs.Occurrences.{OccurrenceIn, Standing, module_name, parameter, local, reference, word, is_module_name, is_reference}
-use Rattle.wesl_scope_strip.specs.Steps.{Refers, Names, IsStep, IsStepOf}
+use Rattle.wesl_scope_strip.specs.Steps.{IsStep, IsStepOf}
 
 -- one edge more
 pub leads_added : (g h : Graph) (from to : ℕ) → ((a : ℕ) → edges_at h a ≡ edges_at g a ++ (if from == a then to ∷ [] else [])) → (a b : ℕ) → Leads h a b ↔ (Leads g a b ⊎ ((from ≡ a) × (to ≡ b)))
@@ -40,27 +40,7 @@ some_same d a e = ap number e
     number (Some k) = k
 
 module _ {B : Type 0} (g : Graph) (n : ℕ) (o : OccurrenceIn ℕ B) where
-  -- an identifier that leads nowhere
-  pub adds_none : ((a b : ℕ) → IsStep n a b o → ⊥) → (a b : ℕ) → Leads g a b ↔ (Leads g a b ⊎ IsStep n a b o)
-  adds_none never a b = (λ c. inl c, back)
-    where
-      back : Leads g a b ⊎ IsStep n a b o → Leads g a b
-      back (inl c) = c
-      back (inr s) = absurd (never a b s)
-
-  pub no_declaration : o.declaration ≡ None → (a b : ℕ) → IsStep n a b o → ⊥
-  no_declaration e a b (inl s) = let q : None ≡ Some a = sym e ∙ s.1 in cc
-  no_declaration e a b (inr s) = let q : None ≡ Some b = sym e ∙ s.1 in cc
-
-  pub no_place : (d : ℕ) → o.declaration ≡ Some d → n ≤ d → (a b : ℕ) → IsStep n a b o → ⊥
-  no_place d e h a b (inl s) = let q : d ≡ a = some_same d a (sym e ∙ s.1) in let l : a < n = s.2 in omega (arith, h, q, l)
-  no_place d e h a b (inr s) = let q : d ≡ b = some_same d b (sym e ∙ s.1) in let l : b < n = s.2 in omega (arith, h, q, l)
-
-  pub no_role : is_reference o.role ≡ false → is_module_name o.role ≡ false → (a b : ℕ) → IsStep n a b o → ⊥
-  no_role r m a b (inl s) = not_both r s.0
-  no_role r m a b (inr s) = not_both m s.0
-
-  -- one that refers, and one that is a name
+  -- an identifier that refers, and one that is a name
   module _ (h : Graph) (d : ℕ) (lies : o.declaration ≡ Some d) (inside : d < n) where
     pub adds_reference : is_reference o.role ≡ true → ((a : ℕ) → edges_at h a ≡ edges_at g a ++ (if d == a then (n + o.name) ∷ [] else [])) → (a b : ℕ) → Leads h a b ↔ (Leads g a b ⊎ IsStep n a b o)
     adds_reference r added a b = let all = leads_added g h d (n + o.name) added a b in (λ c. there (all.0 c), λ s. all.1 (back s))

@@ -6,11 +6,13 @@ use Rattle.wesl_tree_syntax.specs.Tree.{trees}
 use Rattle.wesl_tree_syntax.specs.Unit.{UnitView, trees_of, name_in}
 use Rattle.wesl_scope_occurrences.specs.Occurrences.{is_module_name, is_reference, Occurrence, occurrences}
 
+-- whether the declaration in which an identifier lies, if it lies in one, is number j
 abbrev pub lies_in : ℕ → Option ℕ → Bool
 lies_in j None = false
 lies_in j (Some i) = i == j
 
 module _ (u : UnitView) where
+  -- the identifiers of the module, in document order
   abbrev pub all : List (Occurrence ℕ)
   all = occurrences (trees_of u)
 

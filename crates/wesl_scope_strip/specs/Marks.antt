@@ -6,6 +6,7 @@ use Rattle.wesl_scope_strip.specs.Declarations.{lies_in}
 pub use Rattle.wesl_scope_graph.specs.Marks.{mark_at, unmarked}
 
 module _ {B : Type 0} where
+  -- whether an identifier is the name of declaration j
   abbrev pub names_here : ℕ → OccurrenceIn ℕ B → Bool
   names_here j o = is_module_name o.role && lies_in j o.declaration
 

@@ -39,9 +39,10 @@ SameItems old new = (name : Text) → new name ≡ old name
 abbrev pub SameSources : Sources → Sources → Type 0
 SameSources old new = (path : Path) → new path ≡ old path
 
--- what values of the code say: an item, and what is known of a module
+-- what a value of the code says of an item: the path of its module, and its name
 abbrev pub item_view : ModulePath × String Global → Item
 item_view item = (path_view item.0, string_bytes item.1)
 
+-- what a value of the code says of a module: the name by which it is shown, if it has one, and its source
 abbrev pub source_view : Option (String Global) × String Global → Source
 source_view source = (option_map string_bytes source.0, string_bytes source.1)

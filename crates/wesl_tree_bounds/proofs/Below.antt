@@ -1,5 +1,5 @@
 -- A list of nodes, one node after the other.
-use Rattle.std.proofs.Common.{◌≡◌, ℕ, ◌+◌, ◌<◌, ◌≤◌, Bool, ◌&&◌, List, [], ◌∷◌, length, get_or, map, drop, refl, sym, ap, ◌∙◌, arith, add-one, zero, suc, true, false, drop-cons}
+use Rattle.std.proofs.Common.{◌≡◌, ℕ, ◌+◌, ◌<◌, ◌≤◌, Bool, ◌&&◌, List, length, get_or, map, drop, refl, sym, ap, ◌∙◌, add-one, true, false, drop-cons}
 use Rattle.std.proofs.lemmas.List.{drop_all}
 use Rattle.wesl_tree_syntax.specs.Tree.{Kind, Tree, forest_of, forest_below, tree_below}
 use Rattle.wesl_tree_syntax.specs.View.{placed}
@@ -53,13 +53,3 @@ four true true true d = and_true d
 four true true false d = refl
 four true false c d = refl
 four false b c d = refl
-
-pub both : (a b : Bool) → (a && b) ≡ true → (a ≡ true) × (b ≡ true)
-both true b h = (refl, h)
-both false b h = cc
-
--- where all are below, so is the one at a place
-pub below_at : {A : Type 0} (view : A → Tree) (n : ℕ) (xs : List A) (i : ℕ) (x : A) → i < length xs → x ≡ get_or xs i x → forest_below n (forest_of (map view xs)) ≡ true → tree_below n (view x) ≡ true
-below_at view n [] i x h is b = absurd (omega arith)
-below_at view n (y ∷ ys) zero x h is b = let e : x ≡ y = is in rw e (both (tree_below n (view y)) (all_below view n ys) b).0
-below_at view n (y ∷ ys) (suc i) x h is b = below_at view n ys i x (omega arith) is (both (tree_below n (view y)) (all_below view n ys) b).1

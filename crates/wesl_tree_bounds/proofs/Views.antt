@@ -1,5 +1,5 @@
 -- The tree of a node, level by level.
-use Rattle.std.proofs.Common.{◌≡◌, ℕ, [], ◌∷◌, refl, sym, ◌∙◌, ap, ◌&&◌, rules, Option}
+use Rattle.std.proofs.Common.{◌≡◌, ℕ, [], ◌∷◌, ◌∙◌, ap, ◌&&◌, rules, Option}
 use mathlib.Core.List.{map-map}
 use Rattle.wesl_tree_syntax.specs.Tree.{branch, call, list, compound, statements, Tree, tree_below, if_statement, switch, clauses}
 use Rattle.wesl_tree_syntax.specs.View.{argument_view, entry_view, content_view, content_step, entry_step, call_view, type_view, expression_tree, listed, attributes_tree, expression_step, call_step, argument_step, type_step, compound_view, statement_tree, statement_step, compound_step, continuing_step, else_step, else_if_step, if_step, clause_step, statement_view, if_view, else_if_view, else_view, clause_view, optional}
@@ -15,7 +15,6 @@ use Rattle.wesl_tree_syntax.specs.declared.statement.Statement.{Statement, the_l
 use Rattle.wesl_tree_syntax.specs.declared.statement.Statement as made
 use Rattle.wesl_tree_syntax.specs.declared.span.Spanned.{Spanned}
 use Rattle.wesl_tree_syntax.specs.declared.expression.Expression.{Expression}
-use Rattle.wesl_tree_syntax.specs.declared.expression.TypeExpression.{TypeExpression}
 use Rattle.wesl_tree_syntax.specs.declared.expression.FunctionCall.{FunctionCall, out-FunctionCall}
 use Rattle.wesl_tree_syntax.specs.declared.expression.TemplateArg.{TemplateArg, out-TemplateArg}
 use Rattle.wesl_tree_syntax.specs.declared.expression.Expression.TheFolds.{fold_out-FunctionCall, fold_out-TemplateArg}
@@ -28,15 +27,6 @@ view_call c = fold_out-FunctionCall Tree Tree Tree Tree expression_step call_ste
 
 pub view_compound : (b : CompoundStatement) → compound_view b ≡ branch compound (attributes_tree (out-CompoundStatement b).attributes ∷ listed statement_tree statements (out-CompoundStatement b).statements ∷ [])
 view_compound b = fold_out-CompoundStatement Tree Tree Tree Tree Tree Tree Tree statement_step compound_step continuing_step else_step else_if_step if_step clause_step b ∙ simp map-map
-
-calls : (a b c d : Tree) → a ≡ b → c ≡ d → branch call (a ∷ c ∷ []) ≡ branch call (b ∷ d ∷ [])
-calls a b c d e f = rw (e, f) refl
-
--- a call made of copies of a call's parts
-pub copied_call : (c d : FunctionCall) (t : TypeExpression) (v : Vec (Spanned Expression)) → out-FunctionCall c ≡ record { ty = t; arguments = v }
-    → type_view t ≡ type_view (out-FunctionCall d).ty → listed expression_tree list v ≡ listed expression_tree list (out-FunctionCall d).arguments → call_view c ≡ call_view d
-copied_call c d t v is e f =
-    view_call c ∙ calls _ _ _ _ (ap (λ r. type_view r.ty) is ∙ e) (ap (λ r. listed expression_tree list r.arguments) is ∙ f) ∙ sym (view_call d)
 
 -- an argument lies below where its expression does
 pub argument_below : (n : ℕ) (a : TemplateArg) → tree_below n (argument_view a) ≡ tree_below n (expression_tree (out-TemplateArg a).expression)

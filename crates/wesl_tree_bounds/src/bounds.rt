@@ -1,6 +1,6 @@
 //! Whether every identifier of a tree lies inside a table.
 ghost use Rattle.std.specs.Prelude.{◌≡◌};
-ghost use Rattle.wesl_tree_syntax.specs.Tree.{tree_below, forest_below, forest_of, list};
+ghost use Rattle.wesl_tree_syntax.specs.Tree.{tree_below, list};
 ghost use Rattle.wesl_tree_syntax.specs.View.{expression_view, type_view, argument_view, call_view, expression_tree, listed};
 
 use wesl_tree_syntax::{Expression, ExpressionNode, FunctionCall, TemplateArg, TypeExpression};

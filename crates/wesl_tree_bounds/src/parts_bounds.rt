@@ -1,7 +1,7 @@
 //! Whether every identifier of a tree lies inside a table: attributes, declarations and imports.
 ghost use Rattle.std.specs.Prelude.{◌≡◌};
 ghost use Rattle.wesl_tree_syntax.specs.Tree.{tree_below, list, parameters, members};
-ghost use Rattle.wesl_tree_syntax.specs.View.{expression_view, type_view, expression_tree, attribute_view, attributes_tree, listed, optional, item_view, content_view, entry_view, import_view, directive_view, declaration_view, alias_view, member_view, struct_view, parameter_view, assert_view, placed, imports_tree, directives_tree};
+ghost use Rattle.wesl_tree_syntax.specs.View.{type_view, expression_tree, attribute_view, attributes_tree, listed, optional, item_view, content_view, entry_view, import_view, directive_view, declaration_view, alias_view, member_view, struct_view, parameter_view, assert_view, placed, imports_tree, directives_tree};
 ghost use Rattle.wesl_tree_syntax.specs.Tree.{member_node};
 
 use crate::bounds::{node_is_below, nodes_are_below, type_is_below};

@@ -1,7 +1,7 @@
 //! Whether every identifier of a tree lies inside a table: statements.
 ghost use Rattle.std.specs.Prelude.{◌≡◌};
 ghost use Rattle.std.specs.Box.{box_value};
-ghost use Rattle.wesl_tree_syntax.specs.Tree.{tree_below, list, clauses, statements, statement_node, declaration_node};
+ghost use Rattle.wesl_tree_syntax.specs.Tree.{tree_below, list, clauses, statements};
 ghost use Rattle.wesl_tree_syntax.specs.View.{statement_view, compound_view, continuing_view, else_view, else_if_view, if_view, clause_view, selector_view, break_if_view, statement_tree, listed, optional, function_view, global_view, declarations_tree};
 
 use crate::bounds::{call_is_below, node_is_below};

@@ -98,10 +98,6 @@ path_eq-decides p q =
 pub path_eq-test : (p : ModulePath) → path_eq p ≡ (λ q. same_path (path_view p) (path_view q))
 path_eq-test p = λ i q. path_eq-view p q i
 
--- a look-up at two keys that say the same is one look-up
-pub path_eq-same : (p q : ModulePath) → path_view p ≡ path_view q → path_eq p ≡ path_eq q
-path_eq-same p q e = path_eq-test p ∙ (λ i r. same_path (e i) (path_view r)) ∙ sym (path_eq-test q)
-
 pub one_hash : (p q : ModulePath) → path_view p ≡ path_view q → path_hash p ≡ path_hash q
 one_hash p q e = respects_eq-law p q ((path_eq-decides p q).1 e)
 

@@ -22,24 +22,29 @@ origin_view Absolute = absolute
 origin_view (Relative n) = relative n
 origin_view (Package name) = from_package (string_bytes name)
 
+-- the path that a value of the code says: where it begins, and its components by their bytes
 abbrev pub path_view : ModulePath → Path
 path_view p = record { origin = origin_view p.origin; components = map string_bytes p.components.items }
 
+-- `package`, without components: the root module of the package in which it is read
 abbrev pub root_path : Path
 root_path = record { origin = absolute; components = [] }
 
--- the path with one more component, and with several
+-- the path with one more component, whatever it holds
 abbrev pub push : Path → Text → Path
 push p name = record { origin = p.origin; components = p.components ++ name ∷ [] }
 
+-- the path with more components after its own, in their order
 abbrev pub extend : Path → List Text → Path
 extend p names = record { origin = p.origin; components = p.components ++ names }
 
+-- whether an origin is written `self` or `super`
 abbrev pub origin_is_relative : Origin → Bool
 origin_is_relative absolute = false
 origin_is_relative (relative n) = true
 origin_is_relative (from_package name) = false
 
+-- whether a path begins with `self` or `super`, so that it is joined to another
 abbrev pub is_relative : Path → Bool
 is_relative p = origin_is_relative p.origin
 
@@ -62,12 +67,14 @@ abbrev pub join : Path → Path → Path
 join from to =
     record { origin = join_origin from.origin to.origin; components = take (kept_components (length from.components) to.origin) from.components ++ to.components }
 
+-- whether two origins are one: both `package`, both relative by as many levels, or packages with the same name
 abbrev pub same_origin : Origin → Origin → Bool
 same_origin absolute absolute = true
 same_origin (relative n) (relative k) = n == k
 same_origin (from_package a) (from_package b) = bytes_eq a b
 same_origin _ _ = false
 
+-- whether the components of the second list come first in the first list; of an empty second list it holds
 abbrev pub components_begin : List Text → List Text → Bool
 components_begin xs [] = true
 components_begin [] (y ∷ ys) = false

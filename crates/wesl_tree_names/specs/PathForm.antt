@@ -8,6 +8,7 @@ use Rattle.wesl_tree_names.specs.PathText.{are_components, parse, to_text}
 abbrev pub is_piece : Text → Bool
 is_piece t = not (is_empty t) && not (has colon t)
 
+-- whether each text is nonempty and without a colon
 abbrev pub are_pieces : List Text → Bool
 are_pieces [] = true
 are_pieces (t ∷ ts) = is_piece t && are_pieces ts

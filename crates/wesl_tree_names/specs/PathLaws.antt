@@ -10,10 +10,11 @@ use Rattle.wesl_tree_names.specs.contracts.path.ModulePathPartialEq.TheImpl as e
 use Rattle.wesl_tree_names.specs.contracts.path.ModulePathOrd.TheImpl as order
 use Rattle.wesl_tree_names.specs.contracts.path.ModulePathHash.TheImpl as hash
 
--- what `==` and `cmp` of two paths answer: the functions by which maps and sorts compare keys that are paths
+-- what `==` of two paths answers: by it and by `cmp` maps and sorts compare keys that are paths
 abbrev pub path_eq : ModulePath → ModulePath → Bool
 path_eq = (equality.ghosts).eq
 
+-- what `cmp` of two paths answers
 abbrev pub path_cmp : ModulePath → ModulePath → Ordering
 path_cmp = (order.ghosts).cmp
 
@@ -34,7 +35,7 @@ pub record Order : Type 0 where
   pub equal : (p q : ModulePath) → (path_cmp p q ≡ Equal) ↔ (path_view p ≡ path_view q)
   pub greater : (p q : ModulePath) → (path_cmp p q ≡ Greater) ↔ (path_before (path_view q) (path_view p) ≡ true)
 
--- of two different paths just one stands before the other, and standing before passes on
+-- Of two different paths exactly one stands before the other. What stands before a path stands before those after it too.
 pub record TotalOrder : Type 0 where
   pub irreflexive : (p : Path) → path_before p p ≡ false
   pub transitive : (p q r : Path) → path_before p q ≡ true → path_before q r ≡ true → path_before p r ≡ true

@@ -9,9 +9,11 @@ list_before before same [] (y ∷ ys) = true
 list_before before same (x ∷ xs) [] = false
 list_before before same (x ∷ xs) (y ∷ ys) = before x y || (same x y && list_before before same xs ys)
 
+-- whether the first text stands before the second: by bytes, a beginning first
 abbrev pub text_before : Text → Text → Bool
 text_before = list_before nat_lt (λ a b. a == b)
 
+-- whether the first origin stands before the second: `package`, then relative ones by levels, then packages by name
 abbrev pub origin_before : Origin → Origin → Bool
 origin_before absolute absolute = false
 origin_before absolute _ = true
@@ -26,6 +28,7 @@ abbrev pub path_before : Path → Path → Bool
 path_before p q =
     origin_before p.origin q.origin || (same_origin p.origin q.origin && list_before text_before bytes_eq p.components q.components)
 
+-- whether two lists have the same components in the same order
 abbrev pub same_components : List Text → List Text → Bool
 same_components [] [] = true
 same_components (x ∷ xs) (y ∷ ys) = bytes_eq x y && same_components xs ys

@@ -4,13 +4,14 @@ use Rattle.wesl_tree_names.specs.Path.{Text, absolute, relative, from_package, j
 use Rattle.wesl_tree_names.specs.PathText.{parse, to_text}
 use Rattle.wesl_tree_names.specs.PathOrder.{path_before}
 
--- the text of the second path joined to the first
+-- the text of the second path joined to the first; none where a text says no path
 abbrev pub joined_text : Text → Text → Option Text
 joined_text from to = elim (parse from) as (λ _. Option Text) [
   | None ↦ None
   | Some p ↦ option_map (λ s. to_text (join p s)) (parse to)
 ]
 
+-- rows of joins: what a path means in the module at another path
 pub record JoinRows : Type 0 where
   pub one_up : joined_text (codes "package::a::b") (codes "super::c") ≡ Some (codes "package::a::c")
   pub below : joined_text (codes "package::a::b") (codes "self::c") ≡ Some (codes "package::a::b::c")
@@ -18,6 +19,7 @@ pub record JoinRows : Type 0 where
   pub in_package : joined_text (codes "p::a") (codes "package::x") ≡ Some (codes "p::x")
   pub dependency : joined_text (codes "p::a") (codes "q::x") ≡ Some (codes "p/q::x")
 
+-- rows of reading: texts with the paths that they say, and texts that say none
 pub record ParseRows : Type 0 where
   pub root : parse (codes "package") ≡ Some (record { origin = absolute; components = [] })
   pub own : parse (codes "self::a") ≡ Some (record { origin = relative 0; components = codes "a" ∷ [] })
@@ -37,12 +39,14 @@ pub record ParseRows : Type 0 where
   pub no_first_package : parse (codes "/a") ≡ None
   pub no_last_package : parse (codes "a/") ≡ None
 
+-- whether the path of the first text stands before that of the second; none where a text says no path
 abbrev pub stands_before : Text → Text → Option Bool
 stands_before a b = elim (parse a) as (λ _. Option Bool) [
   | None ↦ None
   | Some p ↦ option_map (path_before p) (parse b)
 ]
 
+-- rows of the order: which of two paths stands first
 pub record OrderRows : Type 0 where
   pub absolute_first : stands_before (codes "package::z") (codes "self") ≡ Some true
   pub packages_last : stands_before (codes "super") (codes "a") ≡ Some true

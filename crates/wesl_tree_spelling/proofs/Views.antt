@@ -3,7 +3,7 @@ use Rattle.std.proofs.Common.{◌≡◌, [], ◌∷◌, ◌∙◌, None, Option,
 use mathlib.Core.List.{map-map}
 use Rattle.std.specs.Box.{box_value}
 use Rattle.std.specs.Global.{Box}
-use Rattle.wesl_tree_syntax.specs.Tree.{assignment, binary, branch, break, call, call_expression, call_statement, clauses, compound, compound_statement, continue, continuing, decrement, discard, else_clause, else_if_clause, for_loop, forest_of, if_clause, if_statement, import_entry, increment, indexing, list, literal, loop, named_component, parenthesized, reference, return, statements, switch, switch_clause, template_argument, Tree, type_expression, type_or_identifier, while_loop}
+use Rattle.wesl_tree_syntax.specs.Tree.{binary, branch, break, call, call_expression, call_statement, clauses, compound, compound_statement, continue, continuing, decrement, discard, else_clause, else_if_clause, for_loop, forest_of, if_clause, if_statement, import_entry, increment, indexing, list, literal, loop, named_component, parenthesized, reference, return, statements, switch, switch_clause, template_argument, Tree, type_expression, type_or_identifier, while_loop}
 use Rattle.wesl_tree_syntax.specs.View.{argument_step, argument_view, assert_view, attributes_tree, boxed_path, break_if_view, call_step, call_view, clause_step, clause_view, compound_step, compound_view, content_step, content_view, continuing_step, continuing_view, declaration_view, else_if_step, else_if_view, else_step, else_view, entry_step, entry_view, expression_step, expression_tree, expression_view, ident_tree, if_step, if_view, listed, literal_tree, names_tree, optional, selector_view, statement_step, statement_tree, statement_view, text_tree, type_step, type_view}
 use Rattle.wesl_tree_syntax.specs.declared.attribute.Attribute.{Attribute}
 use Rattle.wesl_tree_syntax.specs.declared.declaration.ConstAssert.{ConstAssert}
@@ -19,7 +19,6 @@ use Rattle.wesl_tree_syntax.specs.declared.expression.TypeExpression.{TypeExpres
 use Rattle.wesl_tree_syntax.specs.declared.import.Import.{Import, out-Import}
 use Rattle.wesl_tree_syntax.specs.declared.import.ImportContent.TheFolds.{fold_out-Import}
 use Rattle.wesl_tree_syntax.specs.declared.span.Spanned.{Spanned}
-use Rattle.wesl_tree_syntax.specs.declared.statement.AssignmentOperator.{AssignmentOperator}
 use Rattle.wesl_tree_syntax.specs.declared.statement.CompoundStatement.{CompoundStatement, out-CompoundStatement}
 use Rattle.wesl_tree_syntax.specs.declared.statement.ContinuingStatement.{ContinuingStatement, out-ContinuingStatement}
 use Rattle.wesl_tree_syntax.specs.declared.statement.ElseClause.{ElseClause, out-ElseClause}
@@ -103,9 +102,6 @@ view_loop a b c = search (rules, the_lemmas)
 
 pub view_while : (a : Vec (Spanned Attribute) Global) (e : Spanned Expression) (b : CompoundStatement) → statement_view (made.While a e b) ≡ branch while_loop (attributes_tree a ∷ expression_tree e ∷ compound_view b ∷ [])
 view_while a e b = search (rules, the_lemmas)
-
-pub view_assignment : (a : Vec (Spanned Attribute) Global) (o : AssignmentOperator) (l r : Spanned Expression) → statement_view (made.Assignment a o l r) ≡ record { label = assignment o; children = forest_of (attributes_tree a ∷ expression_tree l ∷ expression_tree r ∷ []) }
-view_assignment a o l r = search (rules, the_lemmas)
 
 pub view_increment : (a : Vec (Spanned Attribute) Global) (e : Spanned Expression) → statement_view (made.Increment a e) ≡ branch increment (attributes_tree a ∷ expression_tree e ∷ [])
 view_increment a e = search (rules, the_lemmas)

@@ -1,6 +1,6 @@
 //! The tables by which two trees are compared, and what has no parts: names, texts and paths.
 ghost use Rattle.std.specs.Prelude.{◌≡◌, [], get_or, bytes_eq};
-ghost use Rattle.wesl_tree_names.specs.Path.{path_view, same_origin, origin_view};
+ghost use Rattle.wesl_tree_names.specs.Path.{same_origin, origin_view};
 ghost use Rattle.wesl_tree_spelling.specs.Same.{same_texts as texts_agree, same_span as spans_agree};
 ghost use Rattle.wesl_tree_syntax.specs.View.{boxed_path, optional, path_tree, texts_of};
 

@@ -96,6 +96,7 @@ kind_number directive_list = 88
 kind_number declarations = 89
 kind_number unit = 90
 
+-- whether two kinds are one
 abbrev pub same_kind : Kind → Kind → Bool
 same_kind a b = kind_number a == kind_number b
 
@@ -105,5 +106,6 @@ role_number binder = 0
 role_number reference = 1
 role_number word = 2
 
+-- whether two roles are one
 abbrev pub same_role : Role → Role → Bool
 same_role r s = role_number r == role_number s

@@ -1,5 +1,5 @@
 -- Labelled ordered trees: what a syntax tree says, in document order.
-use Rattle.std.specs.Prelude.{ℕ, ◌+◌, Bool, true, ◌&&◌, List, [], ◌∷◌, ◌++◌, nat_lt}
+use Rattle.std.specs.Prelude.{ℕ, Bool, true, ◌&&◌, List, [], ◌∷◌, ◌++◌, nat_lt}
 use Rattle.wesl_tree_names.specs.Path.{Text, Path}
 use Rattle.wesl_tree_syntax.specs.declared.expression.UnaryOperator.{UnaryOperator}
 use Rattle.wesl_tree_syntax.specs.declared.expression.BinaryOperator.{BinaryOperator}
@@ -134,11 +134,12 @@ pub data ForestOf (I : Type 0) : Type 0 where
   end : ForestOf I
   tree : LabelOf I → ForestOf I → ForestOf I → ForestOf I
 
+-- one tree: its label, and the trees below it in document order
 pub record TreeOf (I : Type 0) : Type 0 where
   pub label : LabelOf I
   pub children : ForestOf I
 
--- the trees of the code, where an identifier is a number
+-- labels, trees side by side and trees of the code, where an identifier is a number:
 abbrev pub Label : Type 0
 Label = LabelOf ℕ
 
@@ -153,13 +154,16 @@ module _ {I : Type 0} where
   abbrev pub before : TreeOf I → ForestOf I → ForestOf I
   before t others = tree t.label t.children others
 
+  -- a tree with nothing below it
   abbrev pub leaf : LabelOf I → TreeOf I
   leaf l = record { label = l; children = end }
 
+  -- the trees of a list, side by side
   abbrev pub forest_of : List (TreeOf I) → ForestOf I
   forest_of [] = end
   forest_of (t ∷ ts) = before t (forest_of ts)
 
+  -- a node of this kind with these trees below it
   abbrev pub branch : Kind → List (TreeOf I) → TreeOf I
   branch k ts = record { label = kind k; children = forest_of ts }
 
@@ -174,7 +178,7 @@ module _ {I : Type 0} where
   identifiers (tree (ident r x) children others) = x ∷ identifiers others
   identifiers (tree l children others) = identifiers children ++ identifiers others
 
--- every identifier's number is below n
+-- whether the number of every identifier is below n, in a label, in trees side by side and in one tree:
 abbrev pub label_below : ℕ → Label → Bool
 label_below n (ident r i) = nat_lt i n
 label_below n _ = true
@@ -188,6 +192,7 @@ tree_below n t = label_below n t.label && forest_below n t.children
 
 -- Each identifier replaced, and no spans: spelling, renaming, what identifiers mean and their numbers are all of this form.
 module _ {I J : Type 0} (f : I → J) where
+  -- a label: an identifier `i` becomes `f i`, a span becomes 0 to 0, and all else stays
   abbrev pub respell_label : LabelOf I → LabelOf J
   respell_label (kind k) = kind k
   respell_label (at k s e) = at k 0 0
@@ -202,9 +207,11 @@ module _ {I J : Type 0} (f : I → J) where
   respell_label (access a) = access a
   respell_label (path p) = path p
 
+  -- trees side by side, with each label so replaced
   abbrev pub respell_forest : ForestOf I → ForestOf J
   respell_forest end = end
   respell_forest (tree l children others) = tree (respell_label l) (respell_forest children) (respell_forest others)
 
+  -- one tree, with each label so replaced
   abbrev pub respell : TreeOf I → TreeOf J
   respell t = record { label = respell_label t.label; children = respell_forest t.children }

@@ -10,6 +10,7 @@ pub record UnitView : Type 0 where
   pub directives : Tree
   pub declarations : Tree
 
+-- a module without names, imports, directives and declarations
 abbrev pub empty_unit : UnitView
 empty_unit = record { names = []; imports = branch imports_kind []; directives = branch directive_list []; declarations = branch declarations_kind [] }
 
@@ -24,10 +25,11 @@ pub record UnitOf (I : Type 0) : Type 0 where
   pub declarations : TreeOf I
 
 module _ {I : Type 0} where
-  -- as the children of one node
+  -- the imports, the directives and the declarations as three trees side by side
   abbrev pub forest_of_unit : UnitOf I → ForestOf I
   forest_of_unit u = tree u.imports.label u.imports.children (tree u.directives.label u.directives.children (tree u.declarations.label u.declarations.children end))
 
+-- the three trees of a module without its table of names, so that each identifier is its number
 abbrev pub trees_of : UnitView → UnitOf ℕ
 trees_of u = record { imports = u.imports; directives = u.directives; declarations = u.declarations }
 

@@ -6,6 +6,7 @@ use Rattle.std.specs.HashSet.{HashSet, contains}
 use Rattle.wesl_tree_names.specs.Path.{Text}
 use Rattle.wesl_validate_builtins.specs.declared.builtins.Builtins.{Builtins}
 
+-- the names that are built in, as the caller hands them in
 pub record BuiltinNames : Type 0 where
   -- those that are defined
   pub names : List Text
@@ -13,9 +14,11 @@ pub record BuiltinNames : Type 0 where
   pub functions : List Text
   pub constructors : List Text
 
+-- the names that a value of the code holds, each of the three lists in its order
 abbrev pub builtins_view : Builtins → BuiltinNames
 builtins_view b = record { names = map string_bytes b.names.items; functions = map string_bytes b.functions.items; constructors = map string_bytes b.constructors.items }
 
+-- whether the name is one of the list
 abbrev pub is_among : Text → List Text → Bool
 is_among n ns = list_any (λ m. bytes_eq m n) ns
 

@@ -16,11 +16,13 @@ use Rattle.wesl_validate_builtins.specs.declared.types.SampledType.TheVariants a
 use Rattle.wesl_validate_builtins.specs.declared.types.VecSize.{VecSize}
 use Rattle.wesl_validate_builtins.specs.declared.types.VecSize.TheVariants as sizes
 
+-- how many components a vector has, or a column or a row of a matrix, as a digit
 abbrev pub size_text : VecSize → Text
 size_text sizes.Two = codes "2"
 size_text sizes.Three = codes "3"
 size_text sizes.Four = codes "4"
 
+-- the name of a texture type, without its template arguments
 abbrev pub texture_name : TextureType → Text
 texture_name textures.Sampled1D = codes "texture_1d"
 texture_name textures.Sampled2D = codes "texture_2d"
@@ -40,15 +42,19 @@ texture_name textures.Depth2DArray = codes "texture_depth_2d_array"
 texture_name textures.DepthCube = codes "texture_depth_cube"
 texture_name textures.DepthCubeArray = codes "texture_depth_cube_array"
 
+-- the name of a sampler type
 abbrev pub sampler_name : SamplerType → Text
 sampler_name samplers.Sampler = codes "sampler"
 sampler_name samplers.SamplerComparison = codes "sampler_comparison"
 
+-- the name of the type that a sampled texture holds
 abbrev pub sampled_name : SampledType → Text
 sampled_name sampled.I32 = codes "i32"
 sampled_name sampled.U32 = codes "u32"
 sampled_name sampled.F32 = codes "f32"
 
+-- The name of a built-in type, without its template arguments. A struct has none of its own. A name that begins with two
+-- underscores is of a type that no source text can name.
 abbrev pub type_name : BuiltinType → Option Text
 type_name types.Bool = Some (codes "bool")
 type_name types.AbstractInt = Some (codes "__AbstractInt")
@@ -67,6 +73,7 @@ type_name types.Ref = Some (codes "__ref")
 type_name (types.Texture t) = Some (texture_name t)
 type_name (types.Sampler s) = Some (sampler_name s)
 
+-- the word of an address space; `handle`, which no source text writes, has none
 abbrev pub space_name : AddressSpace → Option Text
 space_name spaces.Function = Some (codes "function")
 space_name spaces.Private = Some (codes "private")
@@ -75,6 +82,7 @@ space_name spaces.Uniform = Some (codes "uniform")
 space_name spaces.Storage = Some (codes "storage")
 space_name spaces.Handle = None
 
+-- the word of an access mode
 abbrev pub access_name : AccessMode → Text
 access_name modes.Read = codes "read"
 access_name modes.Write = codes "write"

@@ -118,9 +118,6 @@ module _ (u : UnitView) (b : BuiltinNames) (v : Vec (Spanned GlobalDeclaration) 
   pub misses_in : (j : ℕ) (d : Spanned GlobalDeclaration) (m : Misfit) → j < length v.items → d ≡ get_or v.items j d → MissesAmong u b (calls_in (before (global_view d.node) end)) m → MissesIn u b j m
   misses_in j d m h e s = subst (λ cs. MissesAmong u b cs m) (calls_at j d h e) s
 
-  pub pass_none : PassBefore u b 0
-  pass_none i h = absurd (omega (arith, h))
-
   pub pass_next : (j : ℕ) (d : Spanned GlobalDeclaration) → j < length v.items → d ≡ get_or v.items j d → PassBefore u b j → All (Passes u b) (calls_in (before (global_view d.node) end)) → PassBefore u b (j + 1)
   pass_next j d h e all this i l = by (nat_cases i j (omega (arith, l)))
     where

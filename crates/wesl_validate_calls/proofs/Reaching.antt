@@ -1,5 +1,5 @@
 -- Nodes that are met in a graph are those that are reached.
-use Rattle.std.proofs.Common.{◌≡◌, ◌≢◌, ◌⊎◌, ◌↔◌, replicate, ℕ, zero, suc, ◌+◌, ◌-◌, ◌<◌, ◌≤◌, Bool, true, false, List, [], ◌∷◌, ◌++◌, length, get_or, set, refl, sym, ap, ◌∙◌, subst, inl, inr, arith, length-append}
+use Rattle.std.proofs.Common.{◌≡◌, ◌≢◌, ◌⊎◌, ◌↔◌, ℕ, zero, suc, ◌+◌, ◌-◌, ◌<◌, ◌≤◌, Bool, true, false, List, [], ◌∷◌, ◌++◌, length, get_or, set, refl, sym, ap, ◌∙◌, subst, inl, inr, arith, length-append}
 use Rattle.std.specs.Prelude.{if◌then◌else◌}
 use Rattle.std.specs.List.{Contains}
 use Rattle.std.proofs.Math.ListN.{get_or-append}
@@ -257,9 +257,3 @@ clears g start i s r = record {
     by : (m : ℕ) (t : Bool) → mark_at (cleared s.nodes s.marks) m ≡ t → t ≡ false
     by m true e = let l = left_cleared s.nodes s.marks m e in absurd (l.1 (r.listed m l.0))
     by m false e = refl
-
--- as many marks as there are nodes, none of which is set
-pub unset_at : (n m : ℕ) → mark_at (replicate n false) m ≡ false
-unset_at zero m = refl
-unset_at (suc n) zero = refl
-unset_at (suc n) (suc m) = unset_at n m

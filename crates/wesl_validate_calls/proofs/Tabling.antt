@@ -21,13 +21,6 @@ use Rattle.wesl_validate_rules.specs.Valid.{shape_of, Declares}
 use Rattle.wesl_validate_calls.specs.Tables.{Tables, AreTables, shape_at, target_of, target_at, one_or_none, declaration_named, alias_named, edges_here, edges_of, binds_here}
 use Rattle.wesl_validate_calls.proofs.Members.{contains_none, contains_here, contains_cases, to_mapped, from_mapped, to_filtered, from_filtered, from_joined, to_joined}
 
-both : (a b : Bool) → (a && b) ≡ true → (a ≡ true) × (b ≡ true)
-both true b e = (refl, e)
-both false b e = absurd (let f : false ≡ true = e in cc)
-
-and_true : (a b : Bool) → a ≡ true → b ≡ true → (a && b) ≡ true
-and_true a b e f = rw e f
-
 -- edges are made by identifiers of that number
 module _ (f : Found → Option ℕ) (m b : ℕ) where
   abbrev IsMadeBy : Found → Type 0

@@ -17,6 +17,7 @@ abbrev pub first_some : {X Y : Type 0} → (X → Option Y) → List X → Optio
 first_some f [] = None
 first_some f (x ∷ xs) = option_or (f x) (first_some f xs)
 
+-- whether a list has no element
 abbrev pub is_empty : List ℕ → Bool
 is_empty [] = true
 is_empty (x ∷ xs) = false
@@ -32,19 +33,26 @@ module _ (t : Tables) where
   abbrev pub takes_at : ℕ → ℕ → Bool
   takes_at c e = list_any (λ j. takes c (shape_at t.shapes j)) (edges_at t.declarers e)
 
+  -- the count of parameters or members of the first declaration of the number that is a function or a struct, if one is
   abbrev pub count_at : ℕ → Option ℕ
   count_at e = first_some (λ j. count_of (shape_at t.shapes j)) (edges_at t.declarers e)
 
+  -- whether aliases end at the number: it has no declaration, or one that is no alias of a plain name
   abbrev pub ends_at : ℕ → Bool
   ends_at e = is_empty (edges_at t.declarers e) || list_any (λ j. not (is_plain_alias (shape_at t.shapes j))) (edges_at t.declarers e)
 
+  -- the misfit of a call of c arguments whose aliases end at the number: what it calls there takes another count; none where no
+  -- declaration of the number is a function or a struct
   abbrev pub miscounted_at : ℕ → ℕ → Option Misfit
   miscounted_at c e = option_map (λ k. misfit.ParamCount e k c) (count_at e)
 
+  -- the misfit that the number names nothing that can be called, if aliases end at it
   abbrev pub not_callable_at : ℕ → Option Misfit
   not_callable_at e = if ends_at e then Some (misfit.NotCallable e) else None
 
 module _ (t : Tables) (names : List Text) (b : BuiltinNames) where
+  -- whether the number takes c arguments: one of its declarations does, or no binder has it and its name is that of a function
+  -- or a constructor that is built in
   abbrev pub accepts_at : ℕ → ℕ → Bool
   accepts_at c e = takes_at t c e || (not (mark_at t.bound e) && is_callable b (name_in names e))
 

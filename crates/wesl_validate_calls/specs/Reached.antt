@@ -14,6 +14,7 @@ pub record Visits : Type 0 where
   pub marks : List Bool
   pub nodes : List ℕ
 
+-- the visits of these nodes in this order, with these marks
 abbrev pub visits : List Bool → List ℕ → Visits
 visits marks nodes = record { marks = marks; nodes = nodes }
 
@@ -21,6 +22,7 @@ visits marks nodes = record { marks = marks; nodes = nodes }
 abbrev pub entered : ℕ → Visits → Visits
 entered n s = if mark_at s.marks n then s else record { marks = set s.marks n true; nodes = s.nodes ++ n ∷ [] }
 
+-- these nodes are met, one after the other
 abbrev pub all_entered : List ℕ → Visits → Visits
 all_entered [] s = s
 all_entered (n ∷ ns) s = all_entered ns (entered n s)

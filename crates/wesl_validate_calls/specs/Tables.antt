@@ -8,6 +8,7 @@ use Rattle.wesl_validate_rules.specs.Graphs.{Graph, edges_at, Leads, IsClosed}
 use Rattle.wesl_validate_rules.specs.Calls.{ShapeOf, alias_of, other}
 use Rattle.wesl_validate_rules.specs.Valid.{is_bound, shape_of, Declares}
 
+-- What a module is to its calls. Declarations are told by their places among the declarations, and names by their numbers.
 pub record Tables : Type 0 where
   -- of each declaration what it is to a call
   pub shapes : List (ShapeOf ℕ)
@@ -18,13 +19,16 @@ pub record Tables : Type 0 where
   -- of each number whether a binder has it
   pub bound : List Bool
 
+-- what declaration j is to a call; past the last one it is a value
 abbrev pub shape_at : List (ShapeOf ℕ) → ℕ → ShapeOf ℕ
 shape_at shapes j = get_or shapes j other
 
+-- the name for which an alias of a plain name stands; nothing else stands for one
 abbrev pub target_of : ShapeOf ℕ → Option ℕ
 target_of (alias_of t) = Some t
 target_of _ = None
 
+-- the list of the number, or the empty list where there is none
 abbrev pub one_or_none : Option ℕ → List ℕ
 one_or_none None = []
 one_or_none (Some x) = x ∷ []
@@ -39,6 +43,7 @@ module _ {B : Type 0} where
   abbrev pub declaration_named : OccurrenceIn ℕ B → Option ℕ
   declaration_named o = if is_module_name o.role then o.declaration else None
 
+  -- the name for which an identifier stands, if it is the name of an alias of a plain name
   abbrev pub alias_named : List (ShapeOf ℕ) → OccurrenceIn ℕ B → Option ℕ
   alias_named shapes o = target_at shapes (declaration_named o)
 
@@ -46,9 +51,11 @@ module _ {B : Type 0} where
   abbrev pub edges_here : (OccurrenceIn ℕ B → Option ℕ) → ℕ → OccurrenceIn ℕ B → List ℕ
   edges_here f m o = if o.name == m then one_or_none (f o) else []
 
+  -- the edges from the number m that these identifiers make, in their order
   abbrev pub edges_of : (OccurrenceIn ℕ B → Option ℕ) → ℕ → List (OccurrenceIn ℕ B) → List ℕ
   edges_of f m os = flat_map (edges_here f m) os
 
+  -- whether an identifier is a binder of the number m
   abbrev pub binds_here : ℕ → OccurrenceIn ℕ B → Bool
   binds_here m o = is_binder o.role && o.name == m
 

@@ -37,6 +37,7 @@ module _ (u : UnitView) where
   calls_below zero = []
   calls_below (suc j) = calls_below j ++ numbered j (calls_of u j)
 
+  -- the calls in all declarations, each with the number of its declaration
   abbrev pub all_calls : List (ℕ × CallOf ℕ)
   all_calls = calls_below (count u)
 

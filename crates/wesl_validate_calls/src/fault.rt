@@ -10,7 +10,6 @@ ghost use Rattle.wesl_scope_strip.specs.Declarations.{all};
 ghost use Rattle.wesl_validate_builtins.specs.Builtins.{builtins_view};
 ghost use Rattle.wesl_validate_rules.specs.Known.{IsNamedBy};
 ghost use Rattle.wesl_validate_rules.specs.Valid.{IsDefined, AreDistinct, IsAcyclic, IsValidWesl};
-ghost use Rattle.wesl_validate_rules.specs.Faults.{IsWeslFault};
 ghost use Rattle.wesl_validate_calls.specs.Found.{IsFault};
 
 use crate::told::{name_of, name_round};

@@ -3,7 +3,6 @@ ghost use Rattle.std.specs.Prelude.{◌≡◌, map, not};
 ghost use Rattle.std.specs.List.{list_any};
 ghost use Rattle.wesl_validate_builtins.specs.Builtins.{builtins_view};
 ghost use Rattle.wesl_scope_strip.specs.Marks.{mark_at};
-ghost use Rattle.wesl_validate_rules.specs.Graphs.{graph_view, edges_at};
 ghost use Rattle.wesl_tree_syntax.specs.Unit.{name_in};
 ghost use Rattle.wesl_validate_rules.specs.Calls.{takes, is_plain_alias};
 ghost use Rattle.wesl_validate_calls.specs.Judged.{first_some, takes_at, count_at, ends_at, miscounted_at, not_callable_at, accepts_at, judged, count_of};

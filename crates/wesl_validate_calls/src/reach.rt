@@ -4,7 +4,7 @@ ghost use Rattle.std.specs.List.{Contains};
 ghost use Rattle.std.proofs.Common.{set};
 ghost use Rattle.wesl_scope_strip.specs.Marks.{mark_at};
 ghost use Rattle.wesl_validate_rules.specs.Graphs.{graph_view, edges_at, IsClosed};
-ghost use Rattle.wesl_validate_calls.specs.Reached.{ReachedFrom, Visits, all_entered, cleared, entered, visits, IsClear};
+ghost use Rattle.wesl_validate_calls.specs.Reached.{ReachedFrom, all_entered, cleared, entered, visits, IsClear};
 
 use std::alloc::{AllocError, Global};
 

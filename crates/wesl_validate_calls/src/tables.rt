@@ -5,7 +5,7 @@ ghost use Rattle.wesl_scope_occurrences.specs.Views.{occurrence_view};
 ghost use Rattle.wesl_scope_strip.specs.Declarations.{all};
 ghost use Rattle.wesl_validate_rules.specs.Graphs.{graph_view, edges_at, IsClosed};
 ghost use Rattle.wesl_tree.specs.Translation.{unit_view};
-ghost use Rattle.wesl_validate_calls.specs.Tables.{AreTables, one_or_none, declaration_named, target_of, target_at, alias_named, edges_of};
+ghost use Rattle.wesl_validate_calls.specs.Tables.{AreTables, one_or_none, declaration_named, target_of, alias_named, edges_of};
 ghost use Rattle.wesl_validate_calls.specs.Views.{shape_view, tables_view};
 
 use crate::numbers::bound_numbers;

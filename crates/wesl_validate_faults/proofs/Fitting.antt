@@ -3,7 +3,7 @@ use Rattle.std.proofs.Common.{◌≡◌, ◌≢◌, ◌⊎◌, ◌↔◌, ℕ, z
 use Rattle.std.specs.Prelude.{Option, Some, None}
 use Rattle.std.specs.List.{AllPairs, All, Contains}
 use Rattle.std.proofs.lemmas.Bool.{cases_lt}
-use Rattle.std.proofs.lemmas.List.Elements.{All-append, All-contains_itself, All-head, All-tail, All-weaker, Contains-append_cases, Contains-append_left, Contains-append_right}
+use Rattle.std.proofs.lemmas.List.Elements.{All-append, All-contains_itself, All-weaker, Contains-append_cases, Contains-append_left, Contains-append_right}
 use Rattle.std.proofs.lemmas.List.Kept.{AllPairs-cons}
 use Rattle.wesl_tree_syntax.specs.Tree.{Tree, end, trees}
 use Rattle.wesl_tree_syntax.specs.Unit.{UnitView}
@@ -12,7 +12,7 @@ use Rattle.wesl_validate_builtins.specs.Builtins.{BuiltinNames}
 use Rattle.wesl_validate_rules.proofs.Finding.{contains_here, contains_later, contains_cases, contains_none, from_mapped, to_mapped}
 use Rattle.wesl_validate_rules.specs.Calls.{CallOf, is_plain_alias, calls_in}
 use Rattle.wesl_validate_rules.specs.Faults.{name_of, Counts, IsMisfit}
-use Rattle.wesl_validate_rules.specs.Valid.{spelling, calls_of, AliasesTo, IsEnd, Fits, IsValidWgsl}
+use Rattle.wesl_validate_rules.specs.Valid.{calls_of, AliasesTo, IsEnd, Fits, IsValidWgsl}
 use Rattle.wesl_validate_calls.specs.Misfits.{Misses, Passes}
 use Rattle.wesl_validate_calls.specs.Verdicts.{first_count, IsVerdict, AreMisfitsAmong, misfit_in, numbered, calls_below, all_calls}
 use Rattle.wesl_validate_calls.specs.declared.misfit.Misfit.{Misfit}
@@ -20,7 +20,7 @@ use Rattle.wesl_validate_calls.specs.declared.misfit.Misfit.TheVariants as misfi
 use Rattle.wesl_validate_faults.specs.Calls.{misfit_told, AreCallFindings, AreFindingsWgsl}
 use Rattle.wesl_validate_faults.specs.Findings.{Finding, undefined, duplicate, cycle, miscounted, not_callable, IsFound, IsFoundWgsl}
 use Rattle.wesl_validate_faults.specs.Laws.{IsCauseTold, IsMisfitTold, ListsWhatStandsWgsl, ListsEachCauseWgsl, ListsEachOnceWgsl, IsOneListWgsl}
-use Rattle.wesl_validate_faults.specs.Listed.{each_once, AreFindings}
+use Rattle.wesl_validate_faults.specs.Listed.{each_once}
 use Rattle.wesl_validate_faults.proofs.Collecting.{of_once, once_apart, to_once}
 use Rattle.wesl_validate_faults.proofs.Standing.{lists_what_stands, lists_each_cause, lists_each_once, is_one_list, none_is_valid, found_refutes, empty}
 

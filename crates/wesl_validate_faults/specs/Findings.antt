@@ -5,6 +5,7 @@ use Rattle.wesl_tree_syntax.specs.Unit.{UnitView}
 use Rattle.wesl_validate_builtins.specs.Builtins.{BuiltinNames}
 use Rattle.wesl_validate_rules.specs.Faults.{IsUndefined, IsDuplicate, IsCycle, IsMiscounted, IsNotCallable}
 
+-- a fault that is found, with the names that tell it
 pub data Finding : Type 0 where
   -- a name that is not defined, in the declaration of a name, or in one without
   undefined : Option Text → Text → Finding
@@ -24,6 +25,7 @@ same_holder None None = true
 same_holder (Some n) (Some m) = bytes_eq n m
 same_holder _ _ = false
 
+-- whether two findings are one: of one kind, with the same names and counts, in declarations of one name, or in ones without
 abbrev pub same_finding : Finding → Finding → Bool
 same_finding (undefined d n) (undefined e m) = same_holder d e && bytes_eq n m
 same_finding (duplicate n) (duplicate m) = bytes_eq n m

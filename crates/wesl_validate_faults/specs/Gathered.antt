@@ -26,6 +26,7 @@ finding_view (made.Cycle n v) = spec.cycle n.now v.now
 finding_view (made.Miscounted d n x g) = spec.miscounted (option_map (λ m. m.now) d) n.now x g
 finding_view (made.NotCallable d n) = spec.not_callable (option_map (λ m. m.now) d) n.now
 
+-- what the findings of the code stand for, one by one
 abbrev pub findings_view : List Finding → List spec.Finding
 findings_view = map finding_view
 
@@ -41,6 +42,7 @@ with_finding seen f = if list_any (spec.same_finding f) seen then seen else seen
 abbrev pub named_here : ℕ → Found → List ℕ
 named_here j o = if names_here j o then o.name ∷ [] else []
 
+-- the numbers that declaration j declares, by these identifiers
 abbrev pub named_in : List Found → ℕ → List ℕ
 named_in os j = flat_map (named_here j) os
 
@@ -48,6 +50,7 @@ named_in os j = flat_map (named_here j) os
 abbrev pub declared_here : Found → List ℕ
 declared_here o = if is_module_name o.role then o.name ∷ [] else []
 
+-- the numbers of the names of imports and declarations among these identifiers, in their order
 abbrev pub declared_among : List Found → List ℕ
 declared_among os = flat_map declared_here os
 
@@ -57,6 +60,8 @@ module _ (names : List Text) where
   name_by holders None = None
   name_by holders (Some j) = option_map (name_in names) (slice_get (edges_at holders j) 0)
 
+  -- What is found of an identifier: that it is not defined, with the name of the declaration in which it lies, or nothing.
+  -- `known` marks the numbers whose name means something, and `holders` has of each declaration the number that it declares.
   abbrev pub undefined_here : List Bool → Graph → Found → List spec.Finding
   undefined_here known holders o = if is_unknown known o then spec.undefined (name_by holders o.declaration) (name_in names o.name) ∷ [] else []
 
@@ -65,6 +70,7 @@ module _ (names : List Text) where
   misfit_here holders j (misfit.ParamCount e k got) = spec.miscounted (name_by holders (Some j)) (name_in names e) k got
   misfit_here holders j (misfit.NotCallable e) = spec.not_callable (name_by holders (Some j)) (name_in names e)
 
+  -- what is found of the number a, by the last on a way back to it: that it reaches itself; where there is no last one, nothing
   abbrev pub cycle_here : ℕ → Option ℕ → List spec.Finding
   cycle_here a None = []
   cycle_here a (Some last) = spec.cycle (name_in names a) (name_in names last) ∷ []

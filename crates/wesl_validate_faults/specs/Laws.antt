@@ -53,17 +53,22 @@ pub record TellsEachCause (u : UnitView) (b : BuiltinNames) (fs : List Finding) 
   pub names : (f : Finding) → IsFound u b f → IsCauseTold fs f
   pub calls : (j e : ℕ) (c : CallOf ℕ) → Contains (calls_of u j) c → AliasesTo u c.callee e → IsEnd u e → (Fits u b c → ⊥) → IsMisfitTold u b fs j c
 
+-- each finding of the list is a fault of the module, as `validate_wgsl` may tell it
 abbrev pub ListsWhatStandsWgsl : Type 0
 ListsWhatStandsWgsl = (u : UnitView) (b : BuiltinNames) (fs : List Finding) → AreFindingsWgsl u b fs → (f : Finding) → Contains fs f → IsFoundWgsl u b f
 
+-- a diagnostic that tells a finding that stands is one with which `validate_wgsl` may refuse the module
 abbrev pub TellsRefusalsWgsl : Type 0
 TellsRefusalsWgsl = (u : UnitView) (b : BuiltinNames) (f : Finding) (d : Diagnostic) → IsFoundWgsl u b f → TellsFinding f d → RefusesWgsl u b d
 
+-- of whatever stands in the module the cause is told, and of each call that fits nothing its own misfit
 abbrev pub ListsEachCauseWgsl : Type 0
 ListsEachCauseWgsl = (u : UnitView) (b : BuiltinNames) (fs : List Finding) → AreFindingsWgsl u b fs → TellsEachCause u b fs
 
+-- nothing is told twice, no fault of a call either
 abbrev pub ListsEachOnceWgsl : Type 0
 ListsEachOnceWgsl = (u : UnitView) (b : BuiltinNames) (fs : List Finding) → AreFindingsWgsl u b fs → AllPairs (λ f g. f ≢ g) fs
 
+-- a module has no two lists of all its findings, those of calls counted
 abbrev pub IsOneListWgsl : Type 0
 IsOneListWgsl = (u : UnitView) (b : BuiltinNames) (fs gs : List Finding) → AreFindingsWgsl u b fs → AreFindingsWgsl u b gs → fs ≡ gs

@@ -12,6 +12,7 @@ use Rattle.wesl_validate_faults.specs.Findings.{Finding, undefined, duplicate, c
 use Rattle.wesl_validate_faults.specs.Listed.{AreFindings}
 use Rattle.wesl_validate_faults.specs.Calls.{AreFindingsWgsl}
 
+-- the error is of the kind of the finding, with its names and counts; nothing is asked of the declaration that holds it
 abbrev pub IsErrorOf : Finding → ValidateError → Type 0
 IsErrorOf (undefined d n) (fault.UndefinedSymbol m) = string_bytes m ≡ n
 IsErrorOf (duplicate n) (fault.Duplicate m) = string_bytes m ≡ n
@@ -20,6 +21,7 @@ IsErrorOf (miscounted d n x g) (fault.ParamCount m y h) = (string_bytes m ≡ n)
 IsErrorOf (not_callable d n) (fault.NotCallable m) = string_bytes m ≡ n
 IsErrorOf _ _ = ⊥
 
+-- the error is one of validation, and that of the finding
 abbrev pub Says : Finding → error.Error → Type 0
 Says f (error.Validate e) = IsErrorOf f e
 Says f _ = ⊥

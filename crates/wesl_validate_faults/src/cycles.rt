@@ -5,7 +5,7 @@ ghost use Rattle.wesl_tree_syntax.specs.Unit.{UnitView};
 ghost use Rattle.wesl_scope_graph.specs.Graphs.{graph_view, edges_at, IsClosed};
 ghost use Rattle.wesl_scope_graph.specs.Marks.{mark_at};
 ghost use Rattle.wesl_scope_occurrences.specs.Views.{occurrence_view};
-ghost use Rattle.wesl_validate_rules.specs.Graphs.{Leads, Path};
+ghost use Rattle.wesl_validate_rules.specs.Graphs.{Path};
 ghost use Rattle.wesl_validate_rules.specs.Known.{IsNamedBy};
 ghost use Rattle.wesl_validate_faults.specs.Gathered.{AreAdded, AddsCycles, findings_view, declared_here, declared_among, cycle_here, AddsRings, closes, ClosesRing};
 ghost use Rattle.wesl_validate_faults.specs.Listed.{IsFirst};

@@ -1,7 +1,7 @@
 -- Texts, each once: what is among them, and how they are gathered.
-use Rattle.std.proofs.Common.{◌≡◌, ◌≢◌, ◌⊎◌, ℕ, ◌<◌, ◌++◌, ◌&&◌, ◌||◌, Bool, true, false, not, cond, List, [], ◌∷◌, length, refl, sym, ap, ◌∙◌, subst, inl, inr, arith, append_assoc}
-use Rattle.std.specs.Prelude.{◌↔◌, bytes_eq, if◌then◌else◌}
-use Rattle.std.specs.List.{All, AllPairs, Contains, filter, list_any}
+use Rattle.std.proofs.Common.{◌≡◌, ◌≢◌, ◌⊎◌, ◌++◌, ◌&&◌, ◌||◌, Bool, true, false, not, cond, List, [], ◌∷◌, refl, sym, ap, ◌∙◌, subst, inl, inr, arith, append_assoc}
+use Rattle.std.specs.Prelude.{bytes_eq, if◌then◌else◌}
+use Rattle.std.specs.List.{AllPairs, Contains, filter, list_any}
 use Rattle.std.proofs.lemmas.List.{append-nil}
 use Rattle.std.proofs.lemmas.List.Elements.{filter_passes}
 use Rattle.std.proofs.lemmas.List.Folds.{list_any-append}
@@ -53,11 +53,6 @@ module _ {A : Type 0} (p : A → Bool) where
       by false h (inr d) r = r d
 
 -- ---- each once
-is_other : Text → Text → Bool
-is_other n m = not (bytes_eq m n)
-
-same_text : (n : Text) → bytes_eq n n ≡ true
-same_text n = (bytes_eq-Decides n n).1 refl
 
 other_text : (n m : Text) → not (bytes_eq m n) ≡ true → n ≢ m
 other_text n m h e = let f : bytes_eq m n ≡ true = (bytes_eq-Decides m n).1 (sym e) in absurd (let z : ⊥ = cc in z)

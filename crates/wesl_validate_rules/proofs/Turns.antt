@@ -13,11 +13,6 @@ Is Open Open = Unit {0}
 Is Done Done = Unit {0}
 Is _ _ = ⊥
 
-same : (m : Mark) → Is m m
-same New = tt
-same Open = tt
-same Done = tt
-
 new_not_done : New ≡ Done → ⊥
 new_not_done e = subst (λ m. Is New m) e tt
 

@@ -1,4 +1,5 @@
--- The calls of a declaration, and what each declaration is to a call (WGSL, "Function Calls" and "Value Constructor Expressions").
+-- The calls of a declaration, and what each declaration is to a call (WGSL, "Function Calls" and "Value Constructor
+-- Expressions").
 use Rattle.std.specs.Prelude.{ℕ, Bool, true, false, ◌||◌, ◌==◌, List, [], ◌∷◌, ◌++◌, length}
 use Rattle.std.specs.List.{flat_map}
 use Rattle.wesl_tree_syntax.specs.Tree.{ForestOf, end, tree, trees, kind, ident, absent, call_expression, call_statement, type_expression, function, struct, type_alias}
@@ -63,6 +64,7 @@ module _ {I : Type 0} where
   takes c (alias_of x) = false
   takes c other = false
 
+  -- whether a declaration is an alias of a name without a path and without template arguments
   abbrev pub is_plain_alias : ShapeOf I → Bool
   is_plain_alias (alias_of x) = true
   is_plain_alias _ = false

@@ -82,7 +82,7 @@ module _ (u : UnitView) (builtins : BuiltinNames) where
     pub named : spelling u last ≡ n
     pub counts_none : (e k : ℕ) → AliasesTo u call.callee e → Counts u e k → ⊥
 
-  -- a fault, and the name of the declaration that holds it
+  -- a fault that `validate_wesl` may tell, in the declaration of this name, or in one without
   abbrev pub IsWeslFault : Option Text → ValidateError → Type 0
   IsWeslFault within (fault.UndefinedSymbol n) = IsUndefined within (string_bytes n)
   IsWeslFault within (fault.Duplicate n) = IsDuplicate u (string_bytes n) × (within ≡ Some (string_bytes n))
@@ -90,17 +90,19 @@ module _ (u : UnitView) (builtins : BuiltinNames) where
   IsWeslFault within (fault.ParamCount n expected got) = ⊥
   IsWeslFault within (fault.NotCallable n) = ⊥
 
+  -- the same of `validate_wgsl`, which tells faults of calls too
   abbrev pub IsWgslFault : Option Text → ValidateError → Type 0
   IsWgslFault within (fault.ParamCount n expected got) = IsMiscounted within (string_bytes n) expected got
   IsWgslFault within (fault.NotCallable n) = IsNotCallable within (string_bytes n)
   IsWgslFault within e = IsWeslFault within e
 
--- a refusal tells a fault and the declaration that holds it and nothing else, or that memory was refused
+-- the error is such a fault in the declaration of this name, or in one without, or that memory was refused
 abbrev pub TellsAsError : (Option Text → ValidateError → Type 0) → Option Text → error.Error → Type 0
 TellsAsError IsFault within (error.Validate e) = IsFault within e
 TellsAsError IsFault within error.Memory = Unit {0}
 TellsAsError IsFault within _ = ⊥
 
+-- a diagnostic tells such a fault and the declaration that holds it, or that memory was refused, and nothing else
 pub record IsRefusal (IsFault : Option Text → ValidateError → Type 0) (d : Diagnostic) : Type 0 where
   pub tells : TellsAsError IsFault (option_map string_bytes d.declaration) d.error
   pub no_module : d.«module» ≡ None
@@ -108,9 +110,10 @@ pub record IsRefusal (IsFault : Option Text → ValidateError → Type 0) (d : D
   pub no_span : d.span ≡ None
   pub no_source : d.source ≡ None
 
--- what `validate_wesl` and `validate_wgsl` answer where they refuse
+-- the diagnostic is one with which `validate_wesl` may refuse the module
 abbrev pub RefusesWesl : UnitView → BuiltinNames → Diagnostic → Type 0
 RefusesWesl u builtins = IsRefusal (IsWeslFault u builtins)
 
+-- the diagnostic is one with which `validate_wgsl` may refuse the module
 abbrev pub RefusesWgsl : UnitView → BuiltinNames → Diagnostic → Type 0
 RefusesWgsl u builtins = IsRefusal (IsWgslFault u builtins)

@@ -16,6 +16,7 @@ abbrev pub is_meant : BuiltinNames → Text → Bool
 is_meant b n = is_among n b.names || bytes_eq n underscore
 
 module _ {B : Type 0} where
+  -- whether an identifier is a binder of the number m
   abbrev pub binds_here : ℕ → OccurrenceIn ℕ B → Bool
   binds_here m o = is_binder o.role && o.name == m
 
@@ -23,7 +24,7 @@ module _ {B : Type 0} where
   abbrev pub binds : List (OccurrenceIn ℕ B) → ℕ → Bool
   binds os m = list_any (binds_here m) os
 
-  -- marked are just the numbers whose name means something: it is built in, or `_`, or a binder has the number
+  -- marked are exactly the numbers whose name means something: it is built in, or `_`, or a binder has the number
   abbrev pub AreKnown : BuiltinNames → List Text → List (OccurrenceIn ℕ B) → List Bool → Type 0
   AreKnown b names os known = (m : ℕ) → m < length names → mark_at known m ≡ is_meant b (name_in names m) || binds os m
 

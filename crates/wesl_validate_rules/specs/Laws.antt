@@ -10,10 +10,11 @@ use Rattle.wesl_validate_rules.specs.Valid.{spelling, calls_of, LeadsTo, Aliases
 use Rattle.wesl_validate_rules.specs.Graphs.{Graph, Leads, IsGrounded, IsRing}
 use Rattle.wesl_validate_rules.specs.Faults.{IsUndefined, IsDuplicate, IsCycle, IsMiscounted, IsNotCallable, IsWeslFault, IsWgslFault}
 
--- a module with a fault is not valid
+-- a module with a fault that `validate_wesl` may tell is not valid in WESL
 abbrev pub WeslFaultsRefute : Type 0
 WeslFaultsRefute = (u : UnitView) (b : BuiltinNames) (within : Option Text) (e : ValidateError) → IsWeslFault u b within e → IsValidWesl u b → ⊥
 
+-- a module with a fault that `validate_wgsl` may tell is not valid in WGSL
 abbrev pub WgslFaultsRefute : Type 0
 WgslFaultsRefute = (u : UnitView) (b : BuiltinNames) (within : Option Text) (e : ValidateError) → IsWgslFault u b within e → IsValidWgsl u b → ⊥
 

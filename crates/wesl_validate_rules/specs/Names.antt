@@ -6,6 +6,7 @@ use Rattle.wesl_tree_syntax.specs.Unit.{UnitView, name_in}
 use Rattle.wesl_scope_strip.specs.Forests.{first_children, one_begins, own_identifiers}
 
 module _ {I : Type 0} where
+  -- whether the label is that of an attribute `@if`, `@elif` or `@else`
   abbrev pub is_condition : LabelOf I → Bool
   is_condition (kind if_attribute) = true
   is_condition (kind elif_attribute) = true
@@ -35,17 +36,20 @@ module _ {I : Type 0} where
   abbrev pub declared_in : ForestOf I → List I
   declared_in node = if is_conditional node then [] else own_identifiers (first_children node)
 
+  -- the names that these imports bind, those with a condition left out
   abbrev pub imported : ForestOf I → List I
   imported end = []
   imported (tree l node others) = imported_in node ++ imported others
 
+  -- the names that these declarations declare, those with a condition left out
   abbrev pub declared : ForestOf I → List I
   declared end = []
   declared (tree l node others) = declared_in node ++ declared others
 
--- the names of the imports and declarations that have no condition, by their numbers and spelled
+-- the numbers of the names of the imports and then of the declarations that have no condition, in document order
 abbrev pub plain_numbers : UnitView → List ℕ
 plain_numbers u = imported u.imports.children ++ declared u.declarations.children
 
+-- the spellings of these names, in the same order
 abbrev pub plain_names : UnitView → List Text
 plain_names u = map (name_in u.names) (plain_numbers u)

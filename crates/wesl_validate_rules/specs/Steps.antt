@@ -26,6 +26,7 @@ module _ {B : Type 0} where
   abbrev pub AddsSteps : (Option ℕ → List ℕ) → OccurrenceIn ℕ B → Graph → Graph → Type 0
   AddsSteps used o old new = (a : ℕ) → edges_at new a ≡ edges_at old a ++ steps_here used a o
 
+  -- the numbers to which a declaration refers, by the identifiers of the module; none where there is no declaration
   abbrev pub used_in : List (OccurrenceIn ℕ B) → Option ℕ → List ℕ
   used_in os None = []
   used_in os (Some j) = referred os j

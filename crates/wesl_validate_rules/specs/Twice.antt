@@ -6,6 +6,7 @@ use Rattle.wesl_tree_names.specs.Path.{Text}
 abbrev pub AreApart : List Text → Type 0
 AreApart xs = (i j : ℕ) → i < j → j < length xs → get_or xs i [] ≢ get_or xs j []
 
+-- the text n stands at two places of the list
 pub record StandsTwice (xs : List Text) (n : Text) : Type 0 where
   pub first : ℕ
   pub second : ℕ

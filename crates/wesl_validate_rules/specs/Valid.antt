@@ -16,6 +16,7 @@ abbrev pub underscore : Text
 underscore = codes "_"
 
 module _ (u : UnitView) where
+  -- the name of a number; outside the table of names it is the empty text
   abbrev pub spelling : ℕ → Text
   spelling = name_in u.names
 
@@ -23,9 +24,11 @@ module _ (u : UnitView) where
   abbrev pub declaration_at : ℕ → Forest
   declaration_at j = get_or (map (λ t. t.children) (trees u.declarations.children)) j end
 
+  -- what declaration j is to a call; past the last one a value
   abbrev pub shape_of : ℕ → ShapeOf ℕ
   shape_of j = shape_in (declaration_at j)
 
+  -- the calls without a path in declaration j; past the last one none
   abbrev pub calls_of : ℕ → List (CallOf ℕ)
   calls_of j = calls_in (declaration_at j)
 
@@ -52,7 +55,7 @@ module _ (u : UnitView) where
     itself : (m : ℕ) → AliasesTo m m
     aliased : (m t e j : ℕ) → Declares j m → shape_of j ≡ alias_of t → AliasesTo t e → AliasesTo m e
 
-  -- an alias leads on from it nowhere, or one of its declarations is no alias of a plain name
+  -- aliases end at the number: no declaration declares it, or one that is no alias of a plain name
   abbrev pub IsEnd : ℕ → Type 0
   IsEnd e = ((j : ℕ) × Declares j e × (is_plain_alias (shape_of j) ≡ false)) ⊎ ((j : ℕ) → Declares j e → ⊥)
 

@@ -3,9 +3,8 @@ ghost use Rattle.std.specs.Prelude.{◌≡◌, ◌<◌, ◌||◌, ◌==◌, ℕ,
 ghost use Rattle.wesl_tree_syntax.specs.Unit.{name_in};
 ghost use Rattle.wesl_scope_occurrences.specs.Views.{occurrence_view};
 ghost use Rattle.wesl_scope_strip.specs.Marks.{mark_at};
-ghost use Rattle.wesl_validate_builtins.specs.Builtins.{AreKept, BuiltinNames, is_among, builtins_view};
-ghost use Rattle.wesl_validate_rules.specs.Valid.{underscore};
-ghost use Rattle.wesl_validate_rules.specs.Known.{AreKnown, binds_here, binds, is_meant};
+ghost use Rattle.wesl_validate_builtins.specs.Builtins.{AreKept, BuiltinNames, builtins_view};
+ghost use Rattle.wesl_validate_rules.specs.Known.{AreKnown, binds_here, is_meant};
 
 use std::alloc::{AllocError, Global};
 use std::collections::HashSet;

@@ -2,7 +2,7 @@
 ghost use Rattle.std.specs.Prelude.{◌≡◌, ◌++◌, ◌==◌, ℕ, [], map, if◌then◌else◌, IfOk};
 ghost use Rattle.wesl_scope_occurrences.specs.Views.{occurrence_view};
 ghost use Rattle.wesl_validate_rules.specs.Graphs.{graph_view, edges_at, IsClosed};
-ghost use Rattle.wesl_validate_rules.specs.Steps.{AddsSteps, referred_here, referred, used_by, steps_here, steps};
+ghost use Rattle.wesl_validate_rules.specs.Steps.{AddsSteps, referred_here, referred, used_by, steps};
 
 use std::alloc::{AllocError, Global};
 use wesl_scope_graph::add_edge;

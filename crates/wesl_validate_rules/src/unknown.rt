@@ -3,7 +3,6 @@ ghost use Rattle.std.specs.Prelude.{◌≡◌, ◌<◌, length, map, IfOk, IfSom
 ghost use Rattle.std.specs.List.{All, find};
 ghost use Rattle.std.specs.Option.{option_map};
 ghost use Rattle.wesl_tree_syntax.specs.Unit.{UnitView};
-ghost use Rattle.wesl_scope_occurrences.specs.Identified.{identified};
 ghost use Rattle.wesl_scope_occurrences.specs.Views.{occurrence_view};
 ghost use Rattle.wesl_scope_strip.specs.Declarations.{all};
 ghost use Rattle.wesl_validate_builtins.specs.Builtins.{builtins_view};

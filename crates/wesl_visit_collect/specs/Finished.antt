@@ -14,5 +14,6 @@ abbrev pub FinishedBy : Bool → (Tree → Tree → Type 0) → Bool → Tree �
 FinishedBy true turns a s b t = TurnedBy turns a s b t
 FinishedBy false turns a s b t = (b ≡ a) × (t ≡ s)
 
+-- The same in one: the node `s` became `t`; `a` tells whether no rewriter had refused before, `b` whether none has after.
 pub record Finished (of_kind : Bool) (turns : Tree → Tree → Type 0) (a : Bool) (s : Tree) (b : Bool) (t : Tree) : Type 0 where
   pub finished : FinishedBy of_kind turns a s b t

@@ -7,6 +7,7 @@ use Rattle.wesl_visit_collect.specs.Picks.{picks}
 use Rattle.wesl_visit_collect.specs.declared.kinds.Node.{Node}
 use Rattle.wesl_visit_collect.specs.declared.kinds.Node.TheVariants as node
 
+-- the tree of a node of the four kinds; an expression and a statement with their spans
 abbrev pub node_tree : Node → Tree
 node_tree (node.Expression n) = expression_tree n.now
 node_tree (node.TypeExpression t) = type_view t.now

@@ -10,6 +10,7 @@ seen types = without_words
 seen statements = λ f. f
 seen attribute_lists = λ f. f
 
+-- what stands below the first of trees side by side; nothing where there are none
 abbrev pub inside : Forest → Forest
 inside end = end
 inside (tree l children others) = children

@@ -10,6 +10,7 @@ pub data Sought : Type 0 where
   statements : Sought
   attribute_lists : Sought
 
+-- whether a label is that of a node of the kind that a visit looks for
 abbrev pub test : Sought → Label → Bool
 test expressions = is_expression
 test types = is_type

@@ -1,4 +1,5 @@
--- One walk over a tree, which finds the nodes of a kind. Labels come first, so that it goes on at each label whatever is looked for.
+-- One walk over a tree, which finds the nodes of a kind. Labels come first, so that it goes on at each label whatever is
+-- looked for.
 use Rattle.std.specs.Prelude.{Bool, true, false, List, [], ◌∷◌, ◌++◌, if◌then◌else◌}
 use Rattle.wesl_tree_syntax.specs.Tree.{Label, Forest, Tree, end, tree, before, kind, if_attribute, elif_attribute, import_statement, diagnostic_directive, enable_directive, requires_directive}
 use Rattle.wesl_tree_syntax.specs.Nodes.{without_attributes}
@@ -22,6 +23,8 @@ sight_below k (kind enable_directive) f = if passes_words k then without_attribu
 sight_below k (kind requires_directive) f = if passes_words k then without_attributes f else f
 sight_below k _ f = f
 
+-- What a walk sees of trees side by side. Where it looks for expressions or types, it sees nothing below `@if` and `@elif`,
+-- and empty lists of attributes at imports and directives; else it sees all.
 abbrev pub sight : Sought → Forest → Forest
 sight k end = end
 sight k (tree l children others) = tree l (sight_below k l (sight k children)) (sight k others)

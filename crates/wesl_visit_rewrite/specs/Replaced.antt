@@ -10,6 +10,7 @@ pub record Rule : Type 1 where
   pub turns : Tree → Tree → Type 0
   pub inner : Bool
 
+-- the rule that replaces the nodes of a kind as a relation says, those inside a node before it where the last is true
 abbrev pub rule : Sought → (Tree → Tree → Type 0) → Bool → Rule
 rule sought turns inner = record { sought = sought; turns = turns; inner = inner }
 

@@ -1,7 +1,6 @@
 use Rattle.wesl_tree_syntax.specs.Tree.{binder}
 use Rattle.std.proofs.Common.{refl}
 use Rattle.wesl_json_read.proofs.Noting.{many_next, needs_next, no_more, of_bare}
-use Rattle.wesl_tree_syntax.specs.Tree.{binder}
 use Rattle.wesl_json_read_unit.proofs.declaration.parameter.Goals as goal
 
 pub returns : goal.returns

@@ -1,4 +1,4 @@
-use Rattle.std.proofs.Common.{codes, sym, ◌∙◌}
+use Rattle.std.proofs.Common.{sym, ◌∙◌}
 use Rattle.std.proofs.lemmas.Result.{IfOk-weaker}
 use Rattle.wesl_tree_syntax.specs.Tree.{attribute_node}
 use Rattle.wesl_json_write.proofs.PlacedShort.{placed-attribute}

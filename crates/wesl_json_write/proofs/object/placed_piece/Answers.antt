@@ -1,4 +1,4 @@
-use Rattle.std.proofs.Common.{refl, rules, string_bytes, ◌∙◌}
+use Rattle.std.proofs.Common.{refl, rules, string_bytes}
 use Rattle.std.proofs.lemmas.Result.{IfOk-weaker}
 use Rattle.wesl_json_light.specs.View.{piece_view}
 use Rattle.wesl_json_write.proofs.Turned.{turned-list, turned-object, turned-owned, turned-text, turned-truth, turned-whole, view-owned}

@@ -1,6 +1,5 @@
-use Rattle.std.proofs.Common.{◌≡◌, false, List, ◌∷◌, ap, refl, subst, ◌∙◌, map}
+use Rattle.std.proofs.Common.{◌≡◌, false, List, ◌∷◌, ap, subst, ◌∙◌, map}
 use Rattle.std.specs.Prelude.{string_bytes}
-use Rattle.wesl_tree_names.specs.Path.{Text}
 use Rattle.wesl_tree_syntax.specs.View.{texts_of}
 use Rattle.wesl_tree.specs.Translation.{unit_view}
 use Rattle.wesl_link_assembly.specs.Denotations.{free_name}

@@ -1,4 +1,4 @@
-use Rattle.std.proofs.Common.{◌≡◌, ℕ, ◌<◌, ◌+◌, List, [], ◌∷◌, ◌++◌, length, take, get_or, refl, sym, subst, ap, ◌∙◌, arith, length-append, rules}
+use Rattle.std.proofs.Common.{◌≡◌, ◌<◌, List, length, take, get_or, refl, sym, subst, ap, ◌∙◌, arith}
 use Rattle.std.specs.Iterator.Adapters.{enumerate_source, enumerate_count}
 use Rattle.std.specs.Vec.Iter.{into_iter_items, into_iter_len}
 use Rattle.std.proofs.lemmas.List.{length_push}
@@ -7,8 +7,7 @@ use Rattle.std.proofs.lemmas.Iterator.Adapters.{YieldsList-from_vec}
 use Rattle.std.proofs.lemmas.Iterator.Consumers.{YieldsList-from_enumerate, YieldsList-turn, YieldsList-end}
 use Rattle.wesl_link_engine.specs.Linked.{Placed, placed}
 use Rattle.wesl_link_engine.specs.Keeping.{module_of}
-use Rattle.wesl_link_engine.specs.Holding.{AddsPlaced, IsModuleOf}
-use Rattle.wesl_link_engine.specs.declared.link.Link.{Link}
+use Rattle.wesl_link_engine.specs.Holding.{AddsPlaced}
 use Rattle.wesl_link_engine.proofs.Lists.{at_has}
 use Rattle.wesl_link_engine.proofs.Parted.{adds_none}
 use Rattle.wesl_link_engine.proofs.Adding.{declarations_are}

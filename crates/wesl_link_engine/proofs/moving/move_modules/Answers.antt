@@ -1,4 +1,4 @@
-use Rattle.std.proofs.Common.{List, [], ◌∷◌, get_or, length, sym, subst, ◌∙◌, map-id, rules}
+use Rattle.std.proofs.Common.{List, [], ◌∷◌, length, sym, subst, ◌∙◌, map-id, rules}
 use Rattle.std.proofs.lemmas.Iterator.Adapters.{YieldsList-from_vec}
 use Rattle.std.proofs.lemmas.Iterator.Consumers.{YieldsList-turn, YieldsList-end}
 use Rattle.wesl_link_symbols.proofs.Lists.{contains_first, contains_later}

@@ -2,8 +2,6 @@ use Rattle.std.proofs.Common.{◌≡◌, Bool, false, refl, sym, subst, ◌∙�
 use Rattle.std.proofs.lemmas.Result.{IfOk-weaker, IfErr-weaker}
 use Rattle.wesl_link_engine.specs.Asking.{request_view, kept_of}
 use Rattle.wesl_tree_names.specs.Path.{is_relative}
-use Rattle.wesl_link_tables.specs.Numbering.{NameAt}
-use Rattle.wesl_link_tables.specs.NumbersView.{numbering}
 use Rattle.wesl_link_engine.specs.Refusal.{TellsOf}
 use Rattle.wesl_link_engine.specs.Resolved.{module_at}
 use Rattle.wesl_link_engine.specs.Keeping.{modules_of, turns_of}

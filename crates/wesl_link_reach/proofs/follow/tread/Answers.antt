@@ -1,11 +1,8 @@
-use Rattle.std.proofs.Common.{◌≡◌, List, [], reverse, ap, subst, sym, refl}
+use Rattle.std.proofs.Common.{subst}
 use Rattle.wesl_link_symbols.specs.declared.ids.PathId.{PathId}
 use Rattle.wesl_tree_base.specs.declared.ids.NameId.{NameId}
-use Rattle.wesl_link_symbols.specs.declared.symbols.LookUp.{LookUp}
 use Rattle.wesl_link_symbols.specs.declared.symbols.Symbol.{Symbol}
-use Rattle.wesl_link_reach.specs.World.{LeadsTo, Walk, HasMet}
 use Rattle.wesl_link_reach.specs.Trodden.{symbol_of, PutsStep}
-use Rattle.wesl_link_reach.specs.Loading.{world_of}
 use Rattle.wesl_link_reach.proofs.Growing.{goes_on_trans}
 use Rattle.wesl_link_reach.proofs.Treading.{trodden_put, way_alone, way_here, puts_step_on}
 use Rattle.wesl_link_reach.proofs.follow.tread.Goals as goal

@@ -1,8 +1,6 @@
-use Rattle.std.proofs.Common.{refl, ◌≡◌, ◌++◌, ◌∷◌, [], ap, subst, sym, ◌∙◌, List}
-use Rattle.wesl_link_symbols.specs.declared.ids.PathId.{PathId}
-use Rattle.wesl_tree_base.specs.declared.ids.NameId.{NameId}
+use Rattle.std.proofs.Common.{refl, ◌≡◌, ◌++◌, ◌∷◌, [], ap}
 use Rattle.wesl_link_reach.specs.declared.request.Loaded.{Loaded}
-use Rattle.wesl_link_reach.specs.Loading.{GoesOn, with_trodden, world_of}
+use Rattle.wesl_link_reach.specs.Loading.{with_trodden}
 use Rattle.wesl_link_reach.proofs.Growing.{goes_on_itself, goes_on_trans}
 use Rattle.wesl_link_reach.proofs.Treading.{trodden_put, way_of, way_back, way_leads, puts_step_on}
 use Rattle.wesl_link_reach.proofs.follow.tread_back.Goals as goal

@@ -2,8 +2,6 @@ use Rattle.std.specs.Prelude.{string_bytes}
 use Rattle.wesl_json_form.specs.Units.{written_as}
 use Rattle.wesl_tree.specs.Translation.{unit_view}
 use Rattle.wesl_program.specs.Answers.{IsAnswerFor, IsLineOf}
-use Rattle.wesl_program.specs.Line.{IsAnswerLine}
-use Rattle.wesl_program.specs.declared.answer.Answer.{Answer}
 use Rattle.wesl_program.proofs.whole_answer.answer_of_bytes.Goals as goal
 
 pub returns-in-Ok-answer_line-clause-line : goal.returns-in-Ok-answer_line-clause-line

@@ -1,4 +1,4 @@
-use Rattle.std.proofs.Common.{◌≡◌, List, take, Bor, bytes_eq}
+use Rattle.std.proofs.Common.{◌≡◌, take, Bor, bytes_eq}
 use Rattle.std.specs.HashSet.{contains}
 use Rattle.std.specs.List.{list_any}
 use Rattle.wesl_tree_names.specs.Path.{Text, path_view}

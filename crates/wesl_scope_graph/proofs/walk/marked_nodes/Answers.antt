@@ -1,4 +1,4 @@
-use Rattle.std.proofs.Common.{◌≡◌, ◌+◌, ◌<◌, ◌↔◌, ◌∙◌, ℕ, List, true, ap, sym, subst}
+use Rattle.std.proofs.Common.{◌≡◌, ◌+◌, ◌<◌, ◌↔◌, ◌∙◌, ℕ, true, ap, sym, subst}
 use Rattle.std.specs.List.{Contains}
 use Rattle.wesl_scope_graph.specs.Marks.{mark_at}
 use Rattle.wesl_scope_graph.proofs.Meeting.{listed_next, listed_same, listed_all}

@@ -1,4 +1,4 @@
-use Rattle.std.proofs.Common.{◌≡◌, [], length, arith, subst}
+use Rattle.std.proofs.Common.{◌≡◌, [], arith, subst}
 use Rattle.wesl_scope_graph.specs.Graphs.{graph_view}
 use Rattle.wesl_scope_graph.proofs.Reaching.{Reaching, begins, goes_on, ends, empty}
 use Rattle.wesl_scope_graph.proofs.walk.reach.Goals as goal

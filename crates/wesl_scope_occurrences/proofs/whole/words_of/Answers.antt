@@ -1,4 +1,4 @@
-use Rattle.std.proofs.Common.{◌∙◌, ap, length, map, refl, subst}
+use Rattle.std.proofs.Common.{◌∙◌, ap, length, map, subst}
 use Rattle.std.specs.Prelude.{Result, Ok, Err, IfOk}
 use Rattle.wesl_tree_syntax.specs.View.{directive_view}
 use Rattle.wesl_scope_occurrences.specs.Collected.{nothing}

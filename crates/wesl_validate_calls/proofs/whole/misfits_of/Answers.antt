@@ -1,4 +1,4 @@
-use Rattle.std.proofs.Common.{◌<◌, ◌≤◌, length, sym, subst, arith, refl}
+use Rattle.std.proofs.Common.{◌<◌, ◌≤◌, length, arith}
 use Rattle.wesl_tree.specs.Translation.{unit_view}
 use Rattle.wesl_validate_builtins.specs.Builtins.{builtins_view}
 use Rattle.wesl_validate_calls.proofs.Adding.{more_misfits, all_misfits}

@@ -1,4 +1,4 @@
-use Rattle.std.proofs.Common.{◌≡◌, ◌∙◌, map, ap}
+use Rattle.std.proofs.Common.{◌∙◌, map, ap}
 use Rattle.wesl_tree.specs.Translation.{unit_view}
 use Rattle.wesl_scope_graph.specs.Graphs.{graph_view}
 use Rattle.wesl_scope_occurrences.specs.Views.{occurrence_view}

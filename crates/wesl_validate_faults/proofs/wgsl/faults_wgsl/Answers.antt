@@ -1,4 +1,4 @@
-use Rattle.std.proofs.Common.{◌≡◌, ◌∙◌, ap}
+use Rattle.std.proofs.Common.{◌∙◌, ap}
 use Rattle.wesl_tree.specs.Translation.{unit_view}
 use Rattle.wesl_validate_builtins.specs.Builtins.{builtins_view}
 use Rattle.wesl_validate_faults.specs.Calls.{AreFindingsWgsl}

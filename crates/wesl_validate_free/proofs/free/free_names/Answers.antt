@@ -1,4 +1,4 @@
-use Rattle.std.proofs.Common.{◌≡◌, ◌∙◌, ◌<◌, [], length, map, ap, sym, subst}
+use Rattle.std.proofs.Common.{◌≡◌, ◌∙◌, ◌<◌, length, map, ap, sym, subst}
 use Rattle.std.specs.List.{All}
 use Rattle.wesl_tree_base.specs.Borrowed.{texts}
 use Rattle.wesl_tree.specs.Translation.{unit_view}

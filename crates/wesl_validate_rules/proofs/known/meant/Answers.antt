@@ -1,8 +1,6 @@
-use Rattle.std.proofs.Common.{◌≡◌, rules, arith}
-use Rattle.std.proofs.lemmas.Grind.{common_steps}
+use Rattle.std.proofs.Common.{◌≡◌, rules}
 use Rattle.wesl_validate_builtins.specs.Builtins.{builtins_view}
 use Rattle.wesl_validate_rules.specs.Known.{is_meant}
-use Rattle.wesl_tree_syntax.specs.Unit.{name_in}
 use Rattle.wesl_validate_rules.proofs.known.meant.Goals as goal
 
 pub loop-i-preserved : goal.loop-i-preserved

@@ -7,7 +7,7 @@ use Rattle.wesl_tree_syntax.specs.Tree.{list, reference}
 use Rattle.wesl_tree_syntax.specs.View.{argument_view, expression_tree, expression_view, type_view}
 use Rattle.wesl_json_form.specs.Schema.{a_template_argument, an_expression}
 use Rattle.wesl_json_form.specs.Words.{binary_words, unary_words}
-use Rattle.wesl_json_read.specs.Forms.{ReadsBare, expression_worded}
+use Rattle.wesl_json_read.specs.Forms.{ReadsTypeOrIdentifier, expression_of}
 use Rattle.wesl_json_read.specs.NotedNodes.{NotesType}
 use Rattle.wesl_json_read.specs.declared.words.ExpressionWord.TheVariants as words
 use Rattle.wesl_json_read.proofs.Boxes.{as_argument}
@@ -120,19 +120,19 @@ pub indexing-returns-in-None : goal.indexing-returns-in-None
 indexing-returns-in-None t c = seen_worded (λ h. absurd (true≢false (sym (c.in-None.ensures.there (cleared _ _ c.boxed_at-index.ensures.noted.kept h))))) (of_word _ refl c.keys.ensures (needs_next refl c.in-None.ensures.noted (needs_next refl c.boxed_at-index.ensures.noted no_more)))
 
 pub unary-returns-in-Some : goal.unary-returns-in-Some
-unary-returns-in-Some t c = seen_worded (λ h. sym (view-unary _ _)) (of_headed _ (plain-unary _) refl c.keys.ensures (operator_head (λ spans. expression_worded spans words.Unary) unary_words (borrowed_view c.args.value.now) refl c.unary_operator-operator.ensures) (needs_next refl c.in-Some.ensures.noted no_more))
+unary-returns-in-Some t c = seen_worded (λ h. sym (view-unary _ _)) (of_headed _ (plain-unary _) refl c.keys.ensures (operator_head (λ spans. (expression_of spans words.Unary).row) unary_words (borrowed_view c.args.value.now) refl c.unary_operator-operator.ensures) (needs_next refl c.in-Some.ensures.noted no_more))
 
 pub unary-returns-in-None : goal.unary-returns-in-None
-unary-returns-in-None t c = seen_worded (λ h. absurd (true≢false (sym (c.in-None.ensures.there h)))) (of_headed _ (plain-unary _) refl c.keys.ensures (operator_head (λ spans. expression_worded spans words.Unary) unary_words (borrowed_view c.args.value.now) refl c.unary_operator-operator.ensures) (needs_next refl c.in-None.ensures.noted no_more))
+unary-returns-in-None t c = seen_worded (λ h. absurd (true≢false (sym (c.in-None.ensures.there h)))) (of_headed _ (plain-unary _) refl c.keys.ensures (operator_head (λ spans. (expression_of spans words.Unary).row) unary_words (borrowed_view c.args.value.now) refl c.unary_operator-operator.ensures) (needs_next refl c.in-None.ensures.noted no_more))
 
 pub binary-returns-in-Some-right : goal.binary-returns-in-Some-right
-binary-returns-in-Some-right t c = seen_worded (λ h. sym (view-binary _ _ _)) (of_headed _ (plain-binary _) refl c.keys.ensures (operator_head (λ spans. expression_worded spans words.Binary) binary_words (borrowed_view c.args.value.now) refl c.binary_operator-operator.ensures) (needs_next refl c.in-Some.ensures.noted (needs_next refl c.in-Some-right.ensures.noted no_more)))
+binary-returns-in-Some-right t c = seen_worded (λ h. sym (view-binary _ _ _)) (of_headed _ (plain-binary _) refl c.keys.ensures (operator_head (λ spans. (expression_of spans words.Binary).row) binary_words (borrowed_view c.args.value.now) refl c.binary_operator-operator.ensures) (needs_next refl c.in-Some.ensures.noted (needs_next refl c.in-Some-right.ensures.noted no_more)))
 
 pub binary-returns-in-None-right : goal.binary-returns-in-None-right
-binary-returns-in-None-right t c = seen_worded (λ h. absurd (true≢false (sym (c.in-None-right.ensures.there h)))) (of_headed _ (plain-binary _) refl c.keys.ensures (operator_head (λ spans. expression_worded spans words.Binary) binary_words (borrowed_view c.args.value.now) refl c.binary_operator-operator.ensures) (needs_next refl c.in-Some.ensures.noted (needs_next refl c.in-None-right.ensures.noted no_more)))
+binary-returns-in-None-right t c = seen_worded (λ h. absurd (true≢false (sym (c.in-None-right.ensures.there h)))) (of_headed _ (plain-binary _) refl c.keys.ensures (operator_head (λ spans. (expression_of spans words.Binary).row) binary_words (borrowed_view c.args.value.now) refl c.binary_operator-operator.ensures) (needs_next refl c.in-Some.ensures.noted (needs_next refl c.in-None-right.ensures.noted no_more)))
 
 pub binary-returns-in-None : goal.binary-returns-in-None
-binary-returns-in-None t c = seen_worded (λ h. absurd (true≢false (sym (c.in-None.ensures.there (cleared _ _ c.boxed_at-right.ensures.noted.kept h))))) (of_headed _ (plain-binary _) refl c.keys.ensures (operator_head (λ spans. expression_worded spans words.Binary) binary_words (borrowed_view c.args.value.now) refl c.binary_operator-operator.ensures) (needs_next refl c.in-None.ensures.noted (needs_next refl c.boxed_at-right.ensures.noted no_more)))
+binary-returns-in-None t c = seen_worded (λ h. absurd (true≢false (sym (c.in-None.ensures.there (cleared _ _ c.boxed_at-right.ensures.noted.kept h))))) (of_headed _ (plain-binary _) refl c.keys.ensures (operator_head (λ spans. (expression_of spans words.Binary).row) binary_words (borrowed_view c.args.value.now) refl c.binary_operator-operator.ensures) (needs_next refl c.in-None.ensures.noted (needs_next refl c.boxed_at-right.ensures.noted no_more)))
 
 pub worded_expression-returns-in-Some-Literal : goal.worded_expression-returns-in-Some-Literal
 worded_expression-returns-in-Some-Literal t c =
@@ -154,7 +154,7 @@ worded_expression-returns-in-None t c =
     let d = (borrowed_view c.args.value.now) in
     let spans = c.args.self.now.spans in
     let ty = c.type_object.result in
-    rw c.in-None.is (weaker (λ a b h. subst (λ u. ReadsBare spans d u a b) (sym (view-type ty)) (bare-type d (type_view ty) a b h)) (λ x h. h) c.type_object.ensures)
+    rw c.in-None.is (weaker (λ a b h. subst (λ u. ReadsTypeOrIdentifier spans d u a b) (sym (view-type ty)) (bare-type d (type_view ty) a b h)) (λ x h. h) c.type_object.ensures)
 
 pub type_of-returns-then-is_object : goal.type_of-returns-then-is_object
 type_of-returns-then-is_object t c =

@@ -1,8 +1,4 @@
-use Rattle.std.proofs.Common.{◌≡◌, List, length, subst, sym, refl, rules}
-use Rattle.wesl_link_symbols.specs.declared.ids.PathId.{PathId}
-use Rattle.wesl_tree_base.specs.declared.ids.NameId.{NameId}
-use Rattle.wesl_link_symbols.specs.declared.symbols.LookUp.{LookUp}
-use Rattle.wesl_link_symbols.specs.declared.symbols.Symbol.{Symbol}
+use Rattle.std.proofs.Common.{◌≡◌, List, length, subst, sym, rules}
 use Rattle.wesl_link_reach.specs.Trodden.{AreNoted}
 use Rattle.wesl_link_reach.proofs.Noting.{first_noted, step_noted, place_noted, step_here}
 use Rattle.wesl_link_reach.proofs.trodden.Trodden.push.Goals as goal

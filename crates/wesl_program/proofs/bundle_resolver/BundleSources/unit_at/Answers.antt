@@ -1,4 +1,3 @@
-use Rattle.std.proofs.Common.{refl}
 use Rattle.wesl_tree_names.specs.Path.{path_view}
 use Rattle.wesl_resolve_base.proofs.ResultLemmas.{IfOk-to, OrMemory-to, refused-to}
 use Rattle.wesl_program.specs.Hands.{found_in}

@@ -1,4 +1,4 @@
-use Rattle.std.proofs.Common.{◌≡◌, arith, length, map, ◌≤◌, ◌<◌, ◌∙◌, refl}
+use Rattle.std.proofs.Common.{◌≡◌, arith, length, ◌≤◌, ◌<◌, ◌∙◌, refl}
 use Rattle.wesl_scope_occurrences.specs.Views.{occurrence_view}
 use Rattle.wesl_scope_occurrences.proofs.Ended.{ended_item, ended_past}
 use Rattle.wesl_scope_occurrences.proofs.collector.Collector.end_at.Goals as goal

@@ -1,4 +1,4 @@
-use Rattle.std.proofs.Common.{refl, ap}
+use Rattle.std.proofs.Common.{refl}
 use Rattle.wesl_scope_occurrences.specs.Views.{here_view}
 use Rattle.wesl_scope_occurrences.proofs.Views.{item_none, item_some}
 use Rattle.wesl_scope_occurrences.proofs.Steps.{lawful, none, over, tells}

@@ -1,5 +1,0 @@
-use Rattle.std.proofs.Common.{rules}
-use Rattle.wesl_link_split.proofs.split.Scope.is_split.Goals as goal
-
-pub returns : goal.returns
-returns c = search rules
