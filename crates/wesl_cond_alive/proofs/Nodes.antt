@@ -21,19 +21,19 @@ use Rattle.wesl_cond_alive.specs.Sets.{before_declarations}
 use Rattle.wesl_cond_alive.specs.Sound.{Outline, outline_of, is_conditional}
 use Rattle.wesl_cond_alive.specs.Walk.{Ahead, all_choices, in_set, plain, listed, leaf, bare, body, last, branches_of, Here, State, judged, next, places_in, standing, walk, whole_here, no_choices}
 use Rattle.wesl_cond_alive.specs.Views.{state_of}
-use Rattle.wesl_cond_alive.specs.Noted.{Becomes, WalksAs, marked}
+use Rattle.wesl_cond_alive.specs.Noted.{Becomes, WalksAs, with_mark}
 use Rattle.wesl_cond_alive.specs.declared.walk.Walk.{Walk}
 use Rattle.wesl_cond_alive.proofs.Steps.{walked_as}
 use Rattle.wesl_cond_alive.proofs.Views.{view_type}
 
 -- a type, which names itself
 pub plain_type_joined : (here : Here) (s : State ℕ) (p : Option (Box ModulePath)) (i : Ident)
-    → marked here i.0 s ≡ walked_as leaf here s (branch type_expression (optional boxed_path p ∷ ident_tree reference i ∷ leaf_tree (kind absent) ∷ []))
+    → with_mark here i.0 s ≡ walked_as leaf here s (branch type_expression (optional boxed_path p ∷ ident_tree reference i ∷ leaf_tree (kind absent) ∷ []))
 plain_type_joined here s None i = refl
 plain_type_joined here s (Some p) i = refl
 
 pub type_joined : (here : Here) (s : State ℕ) (p : Option (Box ModulePath)) (i : Ident) (ts : List Tree)
-    → walked_as leaf (whole_here here) (marked here i.0 s) (branch list ts) ≡ walked_as leaf here s (branch type_expression (optional boxed_path p ∷ ident_tree reference i ∷ branch present (branch list ts ∷ []) ∷ []))
+    → walked_as leaf (whole_here here) (with_mark here i.0 s) (branch list ts) ≡ walked_as leaf here s (branch type_expression (optional boxed_path p ∷ ident_tree reference i ∷ branch present (branch list ts ∷ []) ∷ []))
 type_joined here s None i ts = refl
 type_joined here s (Some p) i ts = refl
 
@@ -181,7 +181,7 @@ value_tree a k x t e = branch declaration (attributes_tree a ∷ kind_tree k ∷
 
 abbrev value_walk : Here → State ℕ → Vec (Spanned Attribute) → Ident → Option TypeExpression → Option (Spanned Expression) → State ℕ
 value_walk here s a x t e =
-    walked_as leaf (whole_here here) (walked_as leaf (whole_here here) (marked here x.0 (walked_as (listed []) here s (attributes_tree a))) (optional type_view t)) (optional expression_tree e)
+    walked_as leaf (whole_here here) (walked_as leaf (whole_here here) (with_mark here x.0 (walked_as (listed []) here s (attributes_tree a))) (optional type_view t)) (optional expression_tree e)
 
 value_walked : (here : Here) (s : State ℕ) (a : Vec (Spanned Attribute)) (k : DeclarationKind) (x : Ident) (t : Option TypeExpression) (e : Option (Spanned Expression)) → value_walk here s a x t e ≡ walked_as (listed []) here s (value_tree a k x t e)
 value_walked here s a kinds.Const x t e = refl
@@ -192,7 +192,7 @@ value_walked here s a (kinds.Var (Some (p, None))) x t e = refl
 value_walked here s a (kinds.Var (Some (p, Some q))) x t e = refl
 
 pub value_joined : (here : Here) (s s1 s2 s3 s4 : State ℕ) (a : Vec (Spanned Attribute)) (k : DeclarationKind) (x : Ident) (t : Option TypeExpression) (e : Option (Spanned Expression))
-    → s1 ≡ walked_as (listed []) here s (attributes_tree a) → s2 ≡ marked here x.0 s1 → s3 ≡ walked_as leaf (whole_here here) s2 (optional type_view t) → s4 ≡ walked_as leaf (whole_here here) s3 (optional expression_tree e)
+    → s1 ≡ walked_as (listed []) here s (attributes_tree a) → s2 ≡ with_mark here x.0 s1 → s3 ≡ walked_as leaf (whole_here here) s2 (optional type_view t) → s4 ≡ walked_as leaf (whole_here here) s3 (optional expression_tree e)
     → s4 ≡ walked_as (listed []) here s (value_tree a k x t e)
 value_joined here s s1 s2 s3 s4 a k x t e e1 e2 e3 e4 = rw (e4, e3, e2, e1) (value_walked here s a k x t e)
 

@@ -5,7 +5,7 @@ use Rattle.wesl_tree_syntax.specs.Tree.{Tree, forest_of, before, end}
 use Rattle.wesl_cond_alive.specs.Sound.{Outline}
 use Rattle.wesl_cond_alive.specs.Walk.{Ahead, listed, Here, State, judged, next, places_in, walk, whole_here}
 use Rattle.wesl_cond_alive.specs.Views.{here_view, spot_view, state_of}
-use Rattle.wesl_cond_alive.specs.Noted.{Becomes, Judges, WalksAs, WalksIn, marked, standing_by}
+use Rattle.wesl_cond_alive.specs.Noted.{Becomes, JudgesList, WalksAs, WalksIn, with_mark, standing_by}
 use Rattle.wesl_cond_alive.specs.declared.walk.Here as code
 use Rattle.wesl_cond_alive.specs.declared.walk.Walk.{Walk}
 
@@ -38,15 +38,15 @@ pub inside_of : {outer ahead : Ahead} {a b : Walk} {t u v : Tree} (here : Here) 
 inside_of {outer} {ahead} {a} here w is e = over here (next_tree (none a) w) is e
 
 -- one identifier more
-pub one_mark : {a b c : Walk} {s : State ℕ} (here : Here) (x : ℕ) → Becomes a b s → Becomes b c (marked here x (state_of b)) → Becomes a c (marked here x s)
-one_mark {a} {b} {c} {s} here x p q = record { noted = λ k. p.noted (q.noted k); found = λ k. q.found k ∙ ap (marked here x) (p.found (q.noted k)) }
+pub one_mark : {a b c : Walk} {s : State ℕ} (here : Here) (x : ℕ) → Becomes a b s → Becomes b c (with_mark here x (state_of b)) → Becomes a c (with_mark here x s)
+one_mark {a} {b} {c} {s} here x p q = record { noted = λ k. p.noted (q.noted k); found = λ k. q.found k ∙ ap (with_mark here x) (p.found (q.noted k)) }
 
 -- steps that find nothing, and others
 pub one_after : {a b c : Walk} → Becomes a b (state_of a) → Becomes b c (state_of b) → Becomes a c (state_of a)
 one_after p q = record { noted = λ k. p.noted (q.noted k); found = λ k. q.found k ∙ p.found (q.noted k) }
 
 -- a list is judged after steps that find nothing
-pub judged_from : {holder : ℕ} {a b c : Walk} {xs ys : List (Outline ℕ)} {places : List code.Here} → Becomes a b (state_of a) → Judges holder b c xs places → (c.is_refused ≡ false → xs ≡ ys) → Judges holder a c ys places
+pub judged_from : {holder : ℕ} {a b c : Walk} {xs ys : List (Outline ℕ)} {places : List code.Here} → Becomes a b (state_of a) → JudgesList holder b c xs places → (c.is_refused ≡ false → xs ≡ ys) → JudgesList holder a c ys places
 judged_from {holder} {a} {b} {c} {xs} {ys} {places} p j e = record {
   noted = λ k. p.noted (j.noted k);
   found = λ k. j.found k ∙ (ap (judged holder xs) (p.found (j.noted k)) ∙ ap (λ zs. judged holder zs (state_of a)) (e k));
@@ -86,7 +86,7 @@ module _ {X : Type 0} (view : X → Tree) (here : Here) where
   }
 
   -- a judged list is passed
-  pub judged_passed : {old a b : Walk} {xs : List (Outline ℕ)} {places : List code.Here} {ys : List X} {i : ℕ} {t : Tree} → Judges here.set old a xs places
+  pub judged_passed : {old a b : Walk} {xs : List (Outline ℕ)} {places : List code.Here} {ys : List X} {i : ℕ} {t : Tree} → JudgesList here.set old a xs places
       → Passed (λ j. listed (drop j (map here_view places))) a b ys i → length ys ≤ i
       → walk (record { here = whole_here here; ahead = listed (places_in here.set xs (state_of old)) }) (judged here.set xs (state_of old)) (forest_of (map view ys)) ≡ walked_as (listed []) here (state_of old) t
       → WalksAs (listed []) here old b t

@@ -8,7 +8,7 @@ use Rattle.wesl_tree_syntax.specs.Unit.{UnitOf, forest_of_unit}
 use Rattle.wesl_cond_choices.specs.declared.place.Place.{Place}
 use Rattle.wesl_cond_choices.specs.declared.place.Place.TheVariants.{Import, Declaration, Name}
 use Rattle.wesl_cond_choices.specs.Places.{together}
-use Rattle.wesl_cond_alive.specs.Choices.{flags, choice_of, all_choices}
+use Rattle.wesl_cond_alive.specs.Choices.{flags, choice_of, choice_numbers}
 use Rattle.wesl_cond_alive.specs.Kept.{kept_forest, kept_indexes}
 
 -- an identifier with its number in document order
@@ -50,7 +50,7 @@ module _ (u : UnitOf Text) where
 
   -- of each choice the places that it keeps
   abbrev pub alive_of : List (List Place)
-  alive_of = map (λ k. kept_places (choice_of (flags u) k)) (all_choices u)
+  alive_of = map (λ k. kept_places (choice_of (flags u) k)) (choice_numbers u)
 
   -- some choice keeps both
   abbrev pub are_together : Place → Place → Bool

@@ -30,8 +30,8 @@ choice_of [] k = λ flag. false
 choice_of (f ∷ fs) k = λ flag. if bytes_eq f flag then nat_eq (k % 2) 1 else choice_of fs (k / 2) flag
 
 -- the numbers of all choices of a module's flags
-abbrev pub all_choices : UnitOf Text → List ℕ
-all_choices u = below (2 ^ length (flags u))
+abbrev pub choice_numbers : UnitOf Text → List ℕ
+choice_numbers u = below (2 ^ length (flags u))
 
 -- the same choice of flags that are numbers of a table, each by its name there
 abbrev pub choice_by : List Text → List Text → ℕ → Choice ℕ

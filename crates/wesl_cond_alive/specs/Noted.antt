@@ -36,11 +36,11 @@ pub record WalksIn (node : Node) (old new : Walk) (f : Forest) : Type 0 where
   pub found : IfKept new (state_of new ≡ walk node (state_of old) f)
 
 -- an identifier more
-abbrev pub marked : Here → ℕ → State ℕ → State ℕ
-marked here x s = record s { marks = s.marks ++ record { name = x; set = here.set } ∷ []; flags = cond here.is_formula (s.flags ++ x ∷ []) s.flags }
+abbrev pub with_mark : Here → ℕ → State ℕ → State ℕ
+with_mark here x s = record s { marks = s.marks ++ record { name = x; set = here.set } ∷ []; flags = cond here.is_formula (s.flags ++ x ∷ []) s.flags }
 
 -- a list is judged: its branches are added, and the places of its nodes are told
-pub record Judges (holder : ℕ) (old new : Walk) (xs : List (Outline ℕ)) (places : List code.Here) : Type 0 where
+pub record JudgesList (holder : ℕ) (old new : Walk) (xs : List (Outline ℕ)) (places : List code.Here) : Type 0 where
   pub noted : IfKept new (old.is_refused ≡ false)
   pub found : IfKept new (state_of new ≡ judged holder xs (state_of old))
   pub told : IfKept new (map here_view places ≡ places_in holder xs (state_of old))

@@ -8,7 +8,7 @@ use Rattle.wesl_cond_chains.specs.Lists.{elements, is_closed, is_compound, is_en
 use Rattle.wesl_cond_chains.specs.Picked.{Choice}
 use Rattle.wesl_tree_syntax.specs.Tree.{LabelOf, ForestOf, end, tree, kind, at, present, compound_statement}
 use Rattle.wesl_tree_syntax.specs.Unit.{UnitOf, forest_of_unit}
-use Rattle.wesl_cond_alive.specs.Choices.{flags, choice_of, all_choices}
+use Rattle.wesl_cond_alive.specs.Choices.{flags, choice_of, choice_numbers}
 use Rattle.wesl_cond_alive.specs.Kept.{kept_indexes}
 
 -- whether a number is one of these
@@ -73,4 +73,4 @@ AreAliveTogether u first second =
 
 -- the same, told by computing
 abbrev pub are_alive_together : UnitOf Text → List ℕ → List ℕ → Bool
-are_alive_together u first second = list_any (λ k. kept_in (choice_of (flags u) k) first u && kept_in (choice_of (flags u) k) second u) (all_choices u)
+are_alive_together u first second = list_any (λ k. kept_in (choice_of (flags u) k) first u && kept_in (choice_of (flags u) k) second u) (choice_numbers u)

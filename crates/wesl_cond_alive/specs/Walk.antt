@@ -7,7 +7,7 @@ use Rattle.wesl_cond_chains.specs.Faults.{list_at}
 use Rattle.wesl_cond_chains.specs.Formulas.{Form}
 use Rattle.wesl_cond_chains.specs.Lists.{Element, is_closed, is_compound, is_entered}
 use Rattle.wesl_tree_syntax.specs.Nodes.{is_attributes, is_formula}
-use Rattle.wesl_tree_syntax.specs.Tree.{LabelOf, ForestOf, TreeOf, end, tree, ident, before}
+use Rattle.wesl_tree_syntax.specs.Tree.{LabelOf, ForestOf, end, tree, ident}
 use Rattle.wesl_cond_alive.specs.Positions.{size}
 use Rattle.wesl_cond_alive.specs.Sound.{Outline, outline_of, is_conditional, is_whole}
 
@@ -247,7 +247,3 @@ module _ {I : Type 0} where
       walk (after node children)
       (or_marked l here s (walk (entered node l children (places_in here.set list s)) (judged here.set list (flagged l here s)) children))
       others
-
-  -- one tree that stands here
-  abbrev pub walked : Here → State I → TreeOf I → State I
-  walked here s t = walk (plain here) s (before t end)

@@ -6,7 +6,7 @@ ghost use Rattle.wesl_tree_syntax.specs.Tree.{end, forest_of};
 ghost use Rattle.wesl_cond_alive.specs.Sound.{is_conditional, outline_of};
 ghost use Rattle.wesl_cond_alive.specs.Walk.{bare_in, branched, in_set, listed, no_choices, place_of, set_count, standing, whole_here};
 ghost use Rattle.wesl_cond_alive.specs.Views.{here_view, outline_view, spot_view, state_of};
-ghost use Rattle.wesl_cond_alive.specs.Noted.{Becomes, IfKept, Judges, marked};
+ghost use Rattle.wesl_cond_alive.specs.Noted.{Becomes, IfKept, JudgesList, with_mark};
 
 use crate::outline::Outline;
 use std::alloc::Global;
@@ -153,7 +153,7 @@ impl<'a> Walk<'a> {
 
     /// Takes down an identifier.
     pub fn add(&mut self, here: &Here, ident: Ident)
-        ensures { Becomes self.old self.new (marked (here_view here.now) ident.0 (state_of self.old)) }
+        ensures { Becomes self.old self.new (with_mark (here_view here.now) ident.0 (state_of self.old)) }
     {
         let mark = Mark {
             ident,
@@ -225,7 +225,7 @@ impl<'a> Walk<'a> {
 
     /// Takes down the branches of a list, and tells where its nodes stand.
     fn judge(&mut self, holder: usize, nodes: &[Outline<'a>]) -> Vec<Here>
-        ensures { Judges holder self.old self.new (map outline_view nodes.now) result.items }
+        ensures { JudgesList holder self.old self.new (map outline_view nodes.now) result.items }
     {
         let mut places = Vec::new(self.alloc);
         let mut is_whole = true;
@@ -241,7 +241,7 @@ impl<'a> Walk<'a> {
 
     /// The same of a list that stands alone.
     pub fn judge_list<T: Conditional>(&mut self, holder: usize, nodes: &'a Vec<T>) -> Vec<Here>
-        ensures { Judges holder self.old self.new (map outline_of (elements false (forest_of (map T.tree nodes.now.items)))) result.items }
+        ensures { JudgesList holder self.old self.new (map outline_of (elements false (forest_of (map T.tree nodes.now.items)))) result.items }
     {
         let mut outlines = Vec::new(self.alloc);
         self.outline(&mut outlines, nodes);
@@ -255,7 +255,7 @@ impl<'a> Walk<'a> {
         nodes: &'a Vec<T>,
         last: &'a Option<L>,
     ) -> Vec<Here>
-        ensures { Judges holder self.old self.new (map outline_of (elements false (forest_of (map T.tree nodes.now.items)) ++ elements true (optional_forest L.tree last.now))) result.items }
+        ensures { JudgesList holder self.old self.new (map outline_of (elements false (forest_of (map T.tree nodes.now.items)) ++ elements true (optional_forest L.tree last.now))) result.items }
     {
         let mut outlines = Vec::new(self.alloc);
         self.outline(&mut outlines, nodes);

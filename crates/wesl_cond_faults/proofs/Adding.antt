@@ -9,7 +9,7 @@ use Rattle.wesl_cond_faults.proofs.Listing.{stay, joined, own_alone, inside_alon
 use Rattle.wesl_cond_faults.proofs.Placed.{no_faults, no_places}
 use Rattle.wesl_cond_faults.specs.Listed.{AreFaults, nothing}
 use Rattle.wesl_cond_faults.specs.Places.{Place, list_places}
-use Rattle.wesl_cond_faults.specs.Telling.{Adds, AddsAll, IsTold}
+use Rattle.wesl_cond_faults.specs.Telling.{AddsFaults, AddsAll, IsTold}
 use Rattle.wesl_cond_faults.specs.declared.told.Told.{Told}
 use Rattle.wesl_tree_names.specs.Path.{Text}
 use Rattle.wesl_tree_names.specs.declared.errors.Diagnostic.{Diagnostic, out-Diagnostic}
@@ -38,14 +38,14 @@ module _ (names : List Text) where
   some_if fs (Err told) b h e d none = refused_some fs (out-Diagnostic told).error h none
 
 module _ (names : List Text) where
-  pub adds_none : (a : Told) → Adds names [] a a
+  pub adds_none : (a : Told) → AddsFaults names [] a a
   adds_none a = λ first h. subst (λ ps. IsTold names ps a) (sym (append-nil first)) h
 
-  pub adds_both : (ps qs : List (Place ℕ)) (a b c : Told) → Adds names ps a b → Adds names qs b c → Adds names (ps ++ qs) a c
+  pub adds_both : (ps qs : List (Place ℕ)) (a b c : Told) → AddsFaults names ps a b → AddsFaults names qs b c → AddsFaults names (ps ++ qs) a c
   adds_both ps qs a b c p q = λ first h. subst (λ rs. IsTold names rs c) (append_assoc first ps qs) (q (first ++ ps) (p first h))
 
-  pub adds_same : (ps qs : List (Place ℕ)) (a b : Told) → ps ≡ qs → Adds names ps a b → Adds names qs a b
-  adds_same ps qs a b e h = subst (λ rs. Adds names rs a b) e h
+  pub adds_same : (ps qs : List (Place ℕ)) (a b : Told) → ps ≡ qs → AddsFaults names ps a b → AddsFaults names qs a b
+  adds_same ps qs a b e h = subst (λ rs. AddsFaults names rs a b) e h
 
   module _ (reply : Replies ℕ) where
     pub some_place : (xs : List (Element ℕ)) → (list_faults reply false xs ≡ [] → ⊥) → list_places reply false xs ≡ [] → ⊥
@@ -65,7 +65,7 @@ module _ (names : List Text) where
     adds_skip t o a b e h = adds_past t o a b (leaf_alone reply false t.label t.children e) h
 
     -- the list of a node has a fault
-    pub adds_own : (l : Label) (c : Forest) (a b : Told) → is_entered l ≡ true → (list_faults reply false (list_at false l c) ≡ [] → ⊥) → Adds names (list_places reply false (list_at false l c)) a b → AddsAll names reply (tree l c end) a b
+    pub adds_own : (l : Label) (c : Forest) (a b : Told) → is_entered l ≡ true → (list_faults reply false (list_at false l c) ≡ [] → ⊥) → AddsFaults names (list_places reply false (list_at false l c)) a b → AddsAll names reply (tree l c end) a b
     adds_own l c a b en some h = (list_places reply false (list_at false l c), own_alone reply false l c en (some_place (list_at false l c) some), h)
 
     -- it has none
@@ -78,7 +78,7 @@ module _ (names : List Text) where
 
     -- Faults of the whole of which those of the rest are still to be told.
     abbrev pub Owes : Forest → Told → Told → Forest → Type 0
-    Owes whole a b rest = (ps : List (Place ℕ)) × Adds names ps a b × ((qs : List (Place ℕ)) → AreFaults reply false rest qs → AreFaults reply false whole (ps ++ qs))
+    Owes whole a b rest = (ps : List (Place ℕ)) × AddsFaults names ps a b × ((qs : List (Place ℕ)) → AreFaults reply false rest qs → AreFaults reply false whole (ps ++ qs))
 
     pub owes_all : (whole rest : Forest) (a : Told) → whole ≡ rest → Owes whole a a rest
     owes_all whole rest a e = ([], adds_none a, λ qs h. subst (λ t. AreFaults reply false t qs) (sym e) h)

@@ -17,7 +17,7 @@ use Rattle.wesl_cond_features.specs.Features.{Replies}
 use Rattle.wesl_cond_faults.proofs.Adding.{adds_none, adds_both, adds_same}
 use Rattle.wesl_cond_faults.proofs.Placed.{list_joined, through_joined}
 use Rattle.wesl_cond_faults.specs.Places.{Place, found_at, formula_places, condition_places, span_of, node_places, opened_after, opened_through, list_places}
-use Rattle.wesl_cond_faults.specs.Telling.{Adds}
+use Rattle.wesl_cond_faults.specs.Telling.{AddsFaults}
 use Rattle.wesl_cond_faults.specs.declared.told.Told.{Told}
 use Rattle.wesl_tree_base.specs.declared.span.Span.{Span}
 use Rattle.wesl_tree_names.specs.Path.{Text}
@@ -54,11 +54,11 @@ module _ (names : List Text) (reply : Replies ℕ) where
 
   -- the operands of a connective
   pub adds_operands : (span : Span) (x : Expression) (o : BinaryOperator) (e d : Box (Spanned Expression)) (left right : Spanned Expression) (a b c : Told) → x ≡ made.Binary o e d → (o ≡ ShortCircuitAnd) ⊎ (o ≡ ShortCircuitOr)
-      → left ≡ e.value → right ≡ d.value → Adds names (places_in left) a b → Adds names (places_in right) b c → Adds names (formula_places reply span (form (expression_view x))) a c
+      → left ≡ e.value → right ≡ d.value → AddsFaults names (places_in left) a b → AddsFaults names (places_in right) b c → AddsFaults names (formula_places reply span (form (expression_view x))) a c
   adds_operands span x o e d left right a b c is joins same also p q =
       adds_same names (places_in e.value ++ places_in d.value) (formula_places reply span (form (expression_view x))) a c
       (sym (ap (λ y. formula_places reply span (form (expression_view y))) is ∙ joined_places span o e d joins))
-      (adds_both names (places_in e.value) (places_in d.value) a b c (subst (λ y. Adds names (places_in y) a b) same p) (subst (λ y. Adds names (places_in y) b c) also q))
+      (adds_both names (places_in e.value) (places_in d.value) a b c (subst (λ y. AddsFaults names (places_in y) a b) same p) (subst (λ y. AddsFaults names (places_in y) b c) also q))
 
   -- Formulas of attributes.
   abbrev pub formulas : List (Spanned Attribute) → List (Place ℕ)
@@ -72,12 +72,12 @@ module _ (names : List Text) (reply : Replies ℕ) where
 
   -- what is told of a beginning, so that the rest is still to be told
   abbrev pub AreBegun : List (Spanned Attribute) → Told → ℕ → Told → Type 0
-  AreBegun xs a i b = (ps : List (Place ℕ)) × Adds names ps a b × (formulas xs ≡ ps ++ formulas (drop i xs))
+  AreBegun xs a i b = (ps : List (Place ℕ)) × AddsFaults names ps a b × (formulas xs ≡ ps ++ formulas (drop i xs))
 
   pub formulas_start : (xs : List (Spanned Attribute)) (a : Told) → AreBegun xs a 0 a
   formulas_start xs a = ([], adds_none names a, refl)
 
-  pub formulas_more : (xs : List (Spanned Attribute)) (i : ℕ) (x : Spanned Attribute) (a b c : Told) → i < length xs → x ≡ get_or xs i x → AreBegun xs a i b → Adds names (condition_places reply (condition_of_attribute x.node)) b c → AreBegun xs a (i + 1) c
+  pub formulas_more : (xs : List (Spanned Attribute)) (i : ℕ) (x : Spanned Attribute) (a b c : Told) → i < length xs → x ≡ get_or xs i x → AreBegun xs a i b → AddsFaults names (condition_places reply (condition_of_attribute x.node)) b c → AreBegun xs a (i + 1) c
   formulas_more xs i x a b c lt is h k =
       let here = condition_places reply (condition_of_attribute x.node) in (
         h.0 ++ here,
@@ -88,23 +88,23 @@ module _ (names : List Text) (reply : Replies ℕ) where
             ∙ sym (append_assoc h.0 here (formulas (drop (i + 1) xs))),
       )
 
-  pub formulas_end : (xs : List (Spanned Attribute)) (i : ℕ) (a b : Told) → length xs ≤ i → AreBegun xs a i b → Adds names (formulas xs) a b
+  pub formulas_end : (xs : List (Spanned Attribute)) (i : ℕ) (a b : Told) → length xs ≤ i → AreBegun xs a i b → AddsFaults names (formulas xs) a b
   formulas_end xs i a b le h = adds_same names h.0 (formulas xs) a b (sym (h.2 ∙ ap (λ ys. h.0 ++ formulas ys) (none_left xs i le) ∙ append-nil h.0)) h.1
 
   -- One node.
   module _ (opened : Bool) (t : Tree) where
-    pub void_adds : (a : Told) → is_void t.label t.children ≡ true → (closes : Bool) → Adds names (node_places reply opened (as_element closes t)) a a
+    pub void_adds : (a : Told) → is_void t.label t.children ≡ true → (closes : Bool) → AddsFaults names (node_places reply opened (as_element closes t)) a a
     void_adds a e closes = rw e (adds_none names a)
 
     pub void_opened : is_void t.label t.children ≡ true → (closes : Bool) → opened ≡ opened_after opened (as_element closes t)
     void_opened e closes = rw e refl
 
-    pub node_adds : (span : Span) (f : Forest) (a b c : Told) → is_void t.label t.children ≡ false → span ≡ span_of t.label → f ≡ attributes_in (before t end) → Adds names (map (found_at span) (place_faults opened (conditions f))) a b
-        → Adds names (flat_map (condition_places reply) (conditions f)) b c → (closes : Bool) → Adds names (node_places reply opened (as_element closes t)) a c
+    pub node_adds : (span : Span) (f : Forest) (a b c : Told) → is_void t.label t.children ≡ false → span ≡ span_of t.label → f ≡ attributes_in (before t end) → AddsFaults names (map (found_at span) (place_faults opened (conditions f))) a b
+        → AddsFaults names (flat_map (condition_places reply) (conditions f)) b c → (closes : Bool) → AddsFaults names (node_places reply opened (as_element closes t)) a c
     node_adds span f a b c e at is p q closes =
         rw e (
-        subst (λ s. Adds names (map (found_at s) (place_faults opened (conditions (attributes_in (before t end)))) ++ flat_map (condition_places reply) (conditions (attributes_in (before t end)))) a c) at
-        (subst (λ g. Adds names (map (found_at span) (place_faults opened (conditions g)) ++ flat_map (condition_places reply) (conditions g)) a c) is
+        subst (λ s. AddsFaults names (map (found_at s) (place_faults opened (conditions (attributes_in (before t end)))) ++ flat_map (condition_places reply) (conditions (attributes_in (before t end)))) a c) at
+        (subst (λ g. AddsFaults names (map (found_at span) (place_faults opened (conditions g)) ++ flat_map (condition_places reply) (conditions g)) a c) is
         (adds_both names (map (found_at span) (place_faults opened (conditions f))) (flat_map (condition_places reply) (conditions f)) a b c p q)))
 
     pub node_opened : (f : Forest) (after : Bool) → is_void t.label t.children ≡ false → f ≡ attributes_in (before t end) → after ≡ opens (conditions f) → (closes : Bool) → after ≡ opened_after opened (as_element closes t)
@@ -116,7 +116,7 @@ module _ (names : List Text) (reply : Replies ℕ) where
     nodes ys = map (λ x. as_element false (view x)) ys
 
     abbrev pub IsBegun : Told → ℕ → Bool → Told → Type 0
-    IsBegun a i opened b = Adds names (list_places reply false (nodes (take i xs))) a b × (opened ≡ opened_through false (nodes (take i xs)))
+    IsBegun a i opened b = AddsFaults names (list_places reply false (nodes (take i xs))) a b × (opened ≡ opened_through false (nodes (take i xs)))
 
     pub begun_at_start : (a : Told) (opened : Bool) → opened ≡ false → IsBegun a 0 opened a
     begun_at_start a opened e = (adds_none names a, e)
@@ -124,7 +124,7 @@ module _ (names : List Text) (reply : Replies ℕ) where
     one_more : (i : ℕ) (x : A) → i < length xs → x ≡ get_or xs i x → nodes (take (i + 1) xs) ≡ nodes (take i xs) ++ as_element false (view x) ∷ []
     one_more i x lt is = map_more (λ y. as_element false (view y)) xs i x lt ∙ ap (λ y. nodes (take i xs) ++ as_element false (view y) ∷ []) (sym is)
 
-    pub begun_next : (i : ℕ) (x : A) (opened after : Bool) (a b c : Told) → i < length xs → x ≡ get_or xs i x → IsBegun a i opened b → ((closes : Bool) → Adds names (node_places reply opened (as_element closes (view x))) b c)
+    pub begun_next : (i : ℕ) (x : A) (opened after : Bool) (a b c : Told) → i < length xs → x ≡ get_or xs i x → IsBegun a i opened b → ((closes : Bool) → AddsFaults names (node_places reply opened (as_element closes (view x))) b c)
         → ((closes : Bool) → after ≡ opened_after opened (as_element closes (view x))) → IsBegun a (i + 1) after c
     begun_next i x opened after a b c lt is h told opens_on =
         let front = nodes (take i xs) in
@@ -142,19 +142,19 @@ module _ (names : List Text) (reply : Replies ℕ) where
     all_nodes : (i : ℕ) → length xs ≤ i → nodes (take i xs) ≡ whole
     all_nodes i le = ap nodes (all_taken xs i le) ∙ elements_as false view xs
 
-    pub begun_all : (i : ℕ) (opened : Bool) (a b : Told) → length xs ≤ i → IsBegun a i opened b → Adds names (list_places reply false whole) a b
+    pub begun_all : (i : ℕ) (opened : Bool) (a b : Told) → length xs ≤ i → IsBegun a i opened b → AddsFaults names (list_places reply false whole) a b
     begun_all i opened a b le h = adds_same names _ _ a b (ap (list_places reply false) (all_nodes i le)) h.0
 
     pub begun_opened : (i : ℕ) (opened : Bool) (a b : Told) → length xs ≤ i → IsBegun a i opened b → opened ≡ opened_through false whole
     begun_opened i opened a b le h = h.1 ∙ ap (opened_through false) (all_nodes i le)
 
     -- a list with what closes it
-    pub with_last : (t : Tree) (opened : Bool) (a b c : Told) → Adds names (list_places reply false whole) a b → opened ≡ opened_through false whole → Adds names (node_places reply opened (as_element true t)) b c → Adds names (list_places reply false (whole ++ elements true (before t end))) a c
+    pub with_last : (t : Tree) (opened : Bool) (a b c : Told) → AddsFaults names (list_places reply false whole) a b → opened ≡ opened_through false whole → AddsFaults names (node_places reply opened (as_element true t)) b c → AddsFaults names (list_places reply false (whole ++ elements true (before t end))) a c
     with_last t opened a b c p e q =
         let x = as_element true t in
         adds_same names (list_places reply false whole ++ node_places reply opened x) (list_places reply false (whole ++ x ∷ [])) a c
         (sym (list_joined reply false whole (x ∷ []) ∙ ap (λ r. list_places reply false whole ++ r) (append-nil (node_places reply (opened_through false whole) x)) ∙ ap (λ b. list_places reply false whole ++ node_places reply b x) (sym e)))
         (adds_both names (list_places reply false whole) (node_places reply opened x) a b c p q)
 
-    pub without_last : (a b : Told) → Adds names (list_places reply false whole) a b → Adds names (list_places reply false (whole ++ [])) a b
+    pub without_last : (a b : Told) → AddsFaults names (list_places reply false whole) a b → AddsFaults names (list_places reply false (whole ++ [])) a b
     without_last a b p = adds_same names _ _ a b (ap (list_places reply false) (sym (append-nil whole))) p

@@ -14,7 +14,7 @@ use Rattle.wesl_cond_faults.proofs.Placed.{no_places}
 use Rattle.wesl_cond_faults.proofs.Walking.{closing_leaf}
 use Rattle.wesl_cond_faults.specs.Listed.{AreFaults, nothing, apart}
 use Rattle.wesl_cond_faults.specs.Places.{Place, list_places}
-use Rattle.wesl_cond_faults.specs.Telling.{Adds, AddsAll}
+use Rattle.wesl_cond_faults.specs.Telling.{AddsFaults, AddsAll}
 use Rattle.wesl_cond_faults.specs.declared.told.Told.{Told}
 use Rattle.wesl_tree_names.specs.Path.{Text}
 use Rattle.wesl_tree_syntax.specs.Tree.{Label, Forest, Tree, end, tree, kind, before, branch, forest_of, compound, statements, loop, continuing}
@@ -71,10 +71,10 @@ module _ (names : List Text) (reply : Replies ℕ) where
     as_held : tree l (forest_of (attributes_tree x ∷ compound_view body ∷ optional last o ∷ [])) end ≡ tree l (held o) end
     as_held = ap (λ t. tree l (forest_of (attributes_tree x ∷ t ∷ optional last o ∷ [])) end) (view_compound body)
 
-    pub closed_refused : (a b : Told) → (list_faults reply false all ≡ [] → ⊥) → Adds names (list_places reply false all) a b → AddsAll names reply (tree l (forest_of (attributes_tree x ∷ compound_view body ∷ optional last o ∷ [])) end) a b
+    pub closed_refused : (a b : Told) → (list_faults reply false all ≡ [] → ⊥) → AddsFaults names (list_places reply false all) a b → AddsAll names reply (tree l (forest_of (attributes_tree x ∷ compound_view body ∷ optional last o ∷ [])) end) a b
     closed_refused a b some h =
         adds_in names reply _ _ a b (sym as_held)
-        (adds_own names reply l (held o) a b entered (subst (λ xs. list_faults reply false xs ≡ [] → ⊥) (sym (its_list o)) some) (subst (λ xs. Adds names (list_places reply false xs) a b) (sym (its_list o)) h))
+        (adds_own names reply l (held o) a b entered (subst (λ xs. list_faults reply false xs ≡ [] → ⊥) (sym (its_list o)) some) (subst (λ xs. AddsFaults names (list_places reply false xs) a b) (sym (its_list o)) h))
 
     pub closed_told : (a b c : Told) → list_faults reply false all ≡ [] → AddsAll names reply (alone (stay reply) (forest_of ts)) a b → AddsAll names reply (closing (known reply) (forest_of ts) (optional_forest last o)) b c
         → AddsAll names reply (tree l (forest_of (attributes_tree x ∷ compound_view body ∷ optional last o ∷ [])) end) a c
@@ -87,7 +87,7 @@ module _ (names : List Text) (reply : Replies ℕ) where
     as_loop : before (statement_view s) end ≡ tree (kind loop) (forest_of (attributes_tree x ∷ compound_view body ∷ optional continuing_view o ∷ [])) end
     as_loop = ap (λ t. before t end) (ap statement_view is ∙ view_loop x body o)
 
-    pub loop_refused : (a b : Told) → (list_faults reply false loop_list ≡ [] → ⊥) → Adds names (list_places reply false loop_list) a b → AddsAll names reply (before (statement_view s) end) a b
+    pub loop_refused : (a b : Told) → (list_faults reply false loop_list ≡ [] → ⊥) → AddsFaults names (list_places reply false loop_list) a b → AddsAll names reply (before (statement_view s) end) a b
     loop_refused a b some h = adds_in names reply _ _ a b (sym as_loop) (closed_refused continuing_view (kind loop) refl refl x body o a b some h)
 
     pub loop_told : (last : Forest) (a b c : Told) → list_faults reply false loop_list ≡ [] → AddsAll names reply (alone (stay reply) (forest_of (trees_in body))) a b → closing (known reply) (forest_of (trees_in body)) (optional_forest continuing_view o) ≡ last → AddsAll names reply last b c
@@ -125,7 +125,7 @@ module _ (names : List Text) (reply : Replies ℕ) where
     as_block : before (continuing_view c) end ≡ tree (kind continuing) (forest_of (attributes_tree (out-ContinuingStatement c).attributes ∷ compound_view block_body ∷ optional break_if_view block_break ∷ [])) end
     as_block = ap (λ t. before t end) (view_continuing c)
 
-    pub block_refused : (list_faults reply false block_list ≡ [] → ⊥) → Adds names (list_places reply false block_list) a b → AddsAll names reply (before (continuing_view c) end) a b
+    pub block_refused : (list_faults reply false block_list ≡ [] → ⊥) → AddsFaults names (list_places reply false block_list) a b → AddsAll names reply (before (continuing_view c) end) a b
     block_refused some h = adds_in names reply _ _ a b (sym as_block) (closed_refused break_if_view (kind continuing) refl refl (out-ContinuingStatement c).attributes block_body block_break a b some h)
 
     pub block_told : list_faults reply false block_list ≡ [] → AddsAll names reply (alone (stay reply) (forest_of (trees_in block_body))) a b → AddsAll names reply (before (continuing_view c) end) a b

@@ -6,7 +6,7 @@ use Rattle.wesl_cond_features.specs.Features.{Replies, by_number}
 use Rattle.wesl_cond_faults.proofs.Standing.{each_is_among, each_stands}
 use Rattle.wesl_cond_faults.proofs.Placed.{faults_of}
 use Rattle.wesl_cond_faults.specs.Places.{Place, found_at}
-use Rattle.wesl_cond_faults.specs.Telling.{TellsPlace, TellEach, TellsAll, TellsUnit, IsTold, Adds, AddsAll}
+use Rattle.wesl_cond_faults.specs.Telling.{TellsPlace, TellEach, TellsAll, TellsUnit, IsTold, AddsFaults, AddsAll}
 use Rattle.wesl_cond_faults.specs.declared.told.Told.{Told}
 use Rattle.wesl_tree_base.specs.declared.span.Span.{Span}
 use Rattle.wesl_tree_names.specs.Errors.{IsPlaced}
@@ -30,10 +30,10 @@ module _ (names : List Text) where
   placed_told e span f d is h = subst (λ g. Tells names g f × IsPlaced g span d) (sym (ap (λ r. r.error) is)) (h, is)
 
   pub adds_one : (e : error.Error) (span : Span) (f : Fault ℕ) (d : Diagnostic) (a b : Told) → (b.is_refused ≡ false → a.is_refused ≡ false) → (b.is_refused ≡ false → b.diagnostics.items ≡ a.diagnostics.items ++ d ∷ [])
-      → IsPlaced e span d → Tells names e f → Adds names (found_at span f ∷ []) a b
+      → IsPlaced e span d → Tells names e f → AddsFaults names (found_at span f ∷ []) a b
   adds_one e span f d a b kept grown is h = λ first told k. subst (TellEach names (first ++ found_at span f ∷ [])) (sym (grown k)) (tell_more first a.diagnostics.items (found_at span f) d (told (kept k)) (placed_told e span f d is h))
 
-  pub adds_refused : (ps : List (Place ℕ)) (a b : Told) → b.is_refused ≡ true → Adds names ps a b
+  pub adds_refused : (ps : List (Place ℕ)) (a b : Told) → b.is_refused ≡ true → AddsFaults names ps a b
   adds_refused ps a b e = λ first told k. absurd (not_both b.is_refused e k)
 
   none_each : (ps : List (Place ℕ)) (ds : List Diagnostic) → TellEach names ps ds → ds ≡ [] → ps ≡ []

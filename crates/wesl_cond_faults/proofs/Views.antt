@@ -14,7 +14,7 @@ use Rattle.wesl_cond_faults.proofs.Listing.{stay, inside_alone, leaf_alone, own_
 use Rattle.wesl_cond_faults.proofs.Walking.{no_list_in, no_list_stays}
 use Rattle.wesl_cond_faults.specs.Listed.{AreFaults, nothing}
 use Rattle.wesl_cond_faults.specs.Places.{Place, list_places}
-use Rattle.wesl_cond_faults.specs.Telling.{Adds, AddsAll}
+use Rattle.wesl_cond_faults.specs.Telling.{AddsFaults, AddsAll}
 use Rattle.wesl_cond_faults.specs.declared.told.Told.{Told}
 use Rattle.wesl_tree_names.specs.Path.{Text}
 use Rattle.wesl_tree_syntax.specs.Tree.{Tree, Label, Forest, end, tree, kind, at, before, binder, branch, forest_of, list, present, absent, imports, import_node, directive_list, directive_node, declarations, declaration_node, struct, members, member_node, function, parameters, statement_node, compound, statements, compound_statement, if_statement, if_clause, else_if_clause, else_clause, switch, clauses, switch_clause, for_loop, while_loop}
@@ -75,7 +75,7 @@ module _ (names : List Text) (reply : Replies ℕ) where
       leaves_by (p ∷ ps) en is clear = subst (AreFaults reply false (tree l trees end)) is (own_alone reply false l trees en (λ none. some_one p ps (sym is ∙ none)))
 
       leaves_told : is_entered l ≡ true → list_at false l trees ≡ elements false trees → holds_body false l ≡ false → judged (stay reply) false l trees ≡ alone (stay reply) trees
-          → Adds names (list_places reply false (elements false trees)) a b → AddsAll names reply (tree l trees end) a b
+          → AddsFaults names (list_places reply false (elements false trees)) a b → AddsAll names reply (tree l trees end) a b
       leaves_told en its apart all h = (
         list_places reply false (elements false trees),
         leaves_by (list_places reply false (elements false trees)) en (ap (list_places reply false) its)
@@ -125,7 +125,7 @@ module _ (names : List Text) (reply : Replies ℕ) where
     pub clauses_told : (cs : List SwitchClause) → list_faults reply false (elements false (forest_of (map clause_view cs))) ≡ [] → AddsAll names reply (alone (stay reply) (forest_of (map clause_view cs))) a b → Good (branch clauses (map clause_view cs))
     clauses_told cs clear h = adds_inside names reply (kind clauses) (forest_of (map clause_view cs)) a b refl clear refl h
 
-    pub clauses_refused : (cs : List SwitchClause) → (list_faults reply false (elements false (forest_of (map clause_view cs))) ≡ [] → ⊥) → Adds names (list_places reply false (elements false (forest_of (map clause_view cs)))) a b → Good (branch clauses (map clause_view cs))
+    pub clauses_refused : (cs : List SwitchClause) → (list_faults reply false (elements false (forest_of (map clause_view cs))) ≡ [] → ⊥) → AddsFaults names (list_places reply false (elements false (forest_of (map clause_view cs)))) a b → Good (branch clauses (map clause_view cs))
     clauses_refused cs some h = adds_own names reply (kind clauses) (forest_of (map clause_view cs)) a b refl some h
 
     -- statements
@@ -163,23 +163,23 @@ module _ (names : List Text) (reply : Replies ℕ) where
     pub body_told : (x : CompoundStatement) → list_faults reply false (elements false (body_list x)) ≡ [] → AddsAll names reply (alone (stay reply) (body_list x)) a b → Good (compound_view x)
     body_told x clear h = in_body x (adds_inside names reply (kind statements) (body_list x) a b refl clear refl h)
 
-    pub body_refused : (x : CompoundStatement) → (list_faults reply false (elements false (body_list x)) ≡ [] → ⊥) → Adds names (list_places reply false (elements false (body_list x))) a b → Good (compound_view x)
+    pub body_refused : (x : CompoundStatement) → (list_faults reply false (elements false (body_list x)) ≡ [] → ⊥) → AddsFaults names (list_places reply false (elements false (body_list x))) a b → Good (compound_view x)
     body_refused x some h = in_body x (adds_own names reply (kind statements) (body_list x) a b refl some h)
 
     -- declarations
-    pub imports_told : (xs : List (Spanned ImportStatement)) → Adds names (list_places reply false (elements false (forest_of (map (placed import_view import_node) xs)))) a b → Good (branch imports (map (placed import_view import_node) xs))
+    pub imports_told : (xs : List (Spanned ImportStatement)) → AddsFaults names (list_places reply false (elements false (forest_of (map (placed import_view import_node) xs)))) a b → Good (branch imports (map (placed import_view import_node) xs))
     imports_told xs h = leaves_told (placed import_view import_node) (λ x. refl) (kind imports) xs refl refl refl refl h
 
-    pub directives_told : (xs : List (Spanned GlobalDirective)) → Adds names (list_places reply false (elements false (forest_of (map (placed directive_view directive_node) xs)))) a b → Good (branch directive_list (map (placed directive_view directive_node) xs))
+    pub directives_told : (xs : List (Spanned GlobalDirective)) → AddsFaults names (list_places reply false (elements false (forest_of (map (placed directive_view directive_node) xs)))) a b → Good (branch directive_list (map (placed directive_view directive_node) xs))
     directives_told xs h = leaves_told (placed directive_view directive_node) (λ x. refl) (kind directive_list) xs refl refl refl refl h
 
-    members_told : (xs : List (Spanned StructMember)) → Adds names (list_places reply false (elements false (forest_of (map (placed member_view member_node) xs)))) a b → Good (branch members (map (placed member_view member_node) xs))
+    members_told : (xs : List (Spanned StructMember)) → AddsFaults names (list_places reply false (elements false (forest_of (map (placed member_view member_node) xs)))) a b → Good (branch members (map (placed member_view member_node) xs))
     members_told xs h = leaves_told (placed member_view member_node) (λ x. refl) (kind members) xs refl refl refl refl h
 
-    pub parameters_told : (xs : List FormalParameter) → Adds names (list_places reply false (elements false (forest_of (map parameter_view xs)))) a b → Good (branch parameters (map parameter_view xs))
+    pub parameters_told : (xs : List FormalParameter) → AddsFaults names (list_places reply false (elements false (forest_of (map parameter_view xs)))) a b → Good (branch parameters (map parameter_view xs))
     parameters_told xs h = leaves_told parameter_view (λ x. refl) (kind parameters) xs refl refl refl refl h
 
-    pub struct_told : (s : Struct) → Adds names (list_places reply false (elements false (forest_of (map (placed member_view member_node) s.members.items)))) a b → Good (struct_view s)
+    pub struct_told : (s : Struct) → AddsFaults names (list_places reply false (elements false (forest_of (map (placed member_view member_node) s.members.items)))) a b → Good (struct_view s)
     struct_told s h =
         let m = listed (placed member_view member_node) members s.members in
         adds_inside names reply (kind struct) (forest_of (attributes_tree s.attributes ∷ ident_tree binder s.ident ∷ m ∷ [])) a b refl refl refl
@@ -189,7 +189,7 @@ module _ (names : List Text) (reply : Replies ℕ) where
         → AddsAll names reply (alone (stay reply) (forest_of (map (placed global_view declaration_node) xs))) a b → Good (branch declarations (map (placed global_view declaration_node) xs))
     declarations_told xs clear h = adds_inside names reply (kind declarations) (forest_of (map (placed global_view declaration_node) xs)) a b refl clear refl h
 
-    pub declarations_refused : (xs : List (Spanned GlobalDeclaration)) → (list_faults reply false (elements false (forest_of (map (placed global_view declaration_node) xs))) ≡ [] → ⊥) → Adds names (list_places reply false (elements false (forest_of (map (placed global_view declaration_node) xs)))) a b → Good (branch declarations (map (placed global_view declaration_node) xs))
+    pub declarations_refused : (xs : List (Spanned GlobalDeclaration)) → (list_faults reply false (elements false (forest_of (map (placed global_view declaration_node) xs))) ≡ [] → ⊥) → AddsFaults names (list_places reply false (elements false (forest_of (map (placed global_view declaration_node) xs)))) a b → Good (branch declarations (map (placed global_view declaration_node) xs))
     declarations_refused xs some h = adds_own names reply (kind declarations) (forest_of (map (placed global_view declaration_node) xs)) a b refl some h
 
     pub global_told : (n : Spanned GlobalDeclaration) → Good (global_view n.node) → Good (placed global_view declaration_node n)
@@ -217,7 +217,7 @@ module _ (names : List Text) (reply : Replies ℕ) where
       (adds_past names reply (optional expression_tree e) (forest_of (view u ∷ compound_view y ∷ [])) b d (clear_optional expression_tree (λ e. refl) e)
       (adds_then names reply (view u) (before (compound_view y) end) b c d next last)))))
 
-  pub function_told : (a b c : Told) (f : Function) → Adds names (list_places reply false (elements false (forest_of (map parameter_view f.parameters.items)))) a b → AddsAll names reply (before (compound_view f.body) end) b c → AddsAll names reply (before (function_view f) end) a c
+  pub function_told : (a b c : Told) (f : Function) → AddsFaults names (list_places reply false (elements false (forest_of (map parameter_view f.parameters.items)))) a b → AddsAll names reply (before (compound_view f.body) end) b c → AddsAll names reply (before (function_view f) end) a c
   function_told a b c f first last =
       let p = listed parameter_view parameters f.parameters in
       let after = forest_of (attributes_tree f.return_attributes ∷ optional type_view f.return_type ∷ compound_view f.body ∷ []) in
@@ -240,8 +240,8 @@ module _ (features : Features) where
   Told_in n i d g a b = AddsAll n (replies n features) (forest_of (i ∷ d ∷ g ∷ [])) a b
 
   pub unit_told : (u : UnitView) (n : List Text) (i : Vec (Spanned ImportStatement) Global) (d : Vec (Spanned GlobalDirective) Global) (g : Tree) → n ≡ u.names → imports_tree i ≡ u.imports → directives_tree d ≡ u.directives → g ≡ u.declarations
-      → (a b c e : Told) → Adds n (list_places (replies n features) false (elements false (forest_of (map (placed import_view import_node) i.items)))) a b
-      → Adds n (list_places (replies n features) false (elements false (forest_of (map (placed directive_view directive_node) d.items)))) b c → AddsAll n (replies n features) (before g end) c e
+      → (a b c e : Told) → AddsFaults n (list_places (replies n features) false (elements false (forest_of (map (placed import_view import_node) i.items)))) a b
+      → AddsFaults n (list_places (replies n features) false (elements false (forest_of (map (placed directive_view directive_node) d.items)))) b c → AddsAll n (replies n features) (before g end) c e
       → AddsAll u.names (replies u.names features) (forest_of_unit (trees_of u)) a e
   unit_told u n i d g of_names of_imports of_directives of_declarations a b c e p q r =
       let reply = replies n features in

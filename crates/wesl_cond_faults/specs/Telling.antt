@@ -39,12 +39,12 @@ abbrev pub IsTold : List Text → List (Place ℕ) → Told → Type 0
 IsTold names places told = told.is_refused ≡ false → TellEach names places told.diagnostics.items
 
 -- these faults are told after those before
-abbrev pub Adds : List Text → List (Place ℕ) → Told → Told → Type 0
-Adds names places before after = (first : List (Place ℕ)) → IsTold names first before → IsTold names (first ++ places) after
+abbrev pub AddsFaults : List Text → List (Place ℕ) → Told → Told → Type 0
+AddsFaults names places before after = (first : List (Place ℕ)) → IsTold names first before → IsTold names (first ++ places) after
 
 -- all faults in some trees are told after those before
 abbrev pub AddsAll : List Text → Replies ℕ → Forest → Told → Told → Type 0
-AddsAll names reply trees before after = (places : List (Place ℕ)) × AreFaults reply false trees places × Adds names places before after
+AddsAll names reply trees before after = (places : List (Place ℕ)) × AreFaults reply false trees places × AddsFaults names places before after
 
 -- the same under the features, which answer for the flags by their names in the table
 abbrev pub AddsUnder : List Text → Features → Forest → Told → Told → Type 0

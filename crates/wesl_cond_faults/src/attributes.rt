@@ -5,7 +5,7 @@ ghost use Rattle.wesl_cond_chains.specs.Conditions.{first_condition};
 ghost use Rattle.wesl_cond_chains.specs.Faults.{conditions, opens, place_faults};
 ghost use Rattle.wesl_cond_chains.specs.Nodes.{attributes_forest, condition_of_attribute, is_any, is_several, replies};
 ghost use Rattle.wesl_cond_faults.specs.Places.{condition_places, found_at, all_condition_places};
-ghost use Rattle.wesl_cond_faults.specs.Telling.{Adds};
+ghost use Rattle.wesl_cond_faults.specs.Telling.{AddsFaults};
 ghost use Rattle.wesl_tree_names.specs.Path.{Text};
 
 use crate::formula::tell_formula;
@@ -78,7 +78,7 @@ fn is_orphan(attributes: &[AttributeNode], opened: bool) -> bool
 /// `@else` goes on with a chain that is open. `span` is the place of their node.
 #[tactic(auto, using(wesl_cond_chains::proofs::Places::place_is))]
 pub fn tell_place(told: &mut Told, attributes: &[AttributeNode], opened: bool, span: Span)
-    ensures { (names : List Text) → Adds names (map (found_at span) (place_faults opened (conditions (attributes_forest attributes.now)))) told.old told.new }
+    ensures { (names : List Text) → AddsFaults names (map (found_at span) (place_faults opened (conditions (attributes_forest attributes.now)))) told.old told.new }
 {
     if has_several(attributes) {
         told.tell(CondCompError::DuplicateIf, span);
@@ -89,7 +89,7 @@ pub fn tell_place(told: &mut Told, attributes: &[AttributeNode], opened: bool, s
 
 /// Tells the faults of the formula of an attribute, if it has one that is a condition's.
 fn tell_attribute(told: &mut Told, attribute: &Attribute, names: &Names, features: &Features)
-    ensures { Adds names.now (condition_places (replies names.now features.now) (condition_of_attribute attribute.now)) told.old told.new }
+    ensures { AddsFaults names.now (condition_places (replies names.now features.now) (condition_of_attribute attribute.now)) told.old told.new }
 {
     match condition_of(attribute) {
         Some(Condition::If(formula) | Condition::Elif(formula)) => {
@@ -106,7 +106,7 @@ pub fn tell_formulas(
     names: &Names,
     features: &Features,
 )
-    ensures { Adds names.now (all_condition_places (replies names.now features.now) (attributes_forest attributes.now)) told.old told.new }
+    ensures { AddsFaults names.now (all_condition_places (replies names.now features.now) (attributes_forest attributes.now)) told.old told.new }
 {
     for attribute in attributes {
         tell_attribute(told, &attribute.node, names, features);

@@ -2,7 +2,7 @@
 ghost use Rattle.std.specs.Prelude.{◌≡◌, Bool, false, is_ok};
 ghost use Rattle.wesl_cond_chains.specs.Nodes.{as_element, replies, closed_nodes, nodes_in};
 ghost use Rattle.wesl_cond_faults.specs.Places.{list_places, node_places, opened_after, opened_through};
-ghost use Rattle.wesl_cond_faults.specs.Telling.{Adds};
+ghost use Rattle.wesl_cond_faults.specs.Telling.{AddsFaults};
 
 use crate::attributes::{opens, tell_formulas, tell_place};
 use crate::nodes::Located;
@@ -18,7 +18,7 @@ fn tell_node<T: Located>(
     names: &Names,
     features: &Features,
 ) -> bool
-    ensures told { (closes : Bool) → Adds names.now (node_places (replies names.now features.now) opened (as_element closes (T.tree node.now))) told.old told.new }
+    ensures told { (closes : Bool) → AddsFaults names.now (node_places (replies names.now features.now) opened (as_element closes (T.tree node.now))) told.old told.new }
     ensures opened { (closes : Bool) → result ≡ opened_after opened (as_element closes (T.tree node.now)) }
 {
     if node.is_void() {
@@ -38,7 +38,7 @@ fn tell_nodes<T: Located>(
     names: &Names,
     features: &Features,
 ) -> bool
-    ensures told { Adds names.now (list_places (replies names.now features.now) false (nodes_in T.tree nodes.now.items)) told.old told.new }
+    ensures told { AddsFaults names.now (list_places (replies names.now features.now) false (nodes_in T.tree nodes.now.items)) told.old told.new }
     ensures opened { result ≡ opened_through false (nodes_in T.tree nodes.now.items) }
 {
     let mut opened = false;
@@ -57,7 +57,7 @@ pub fn is_clear(outcome: Result<(), Diagnostic>) -> bool
 
 /// Tells the faults of the conditions of the nodes of a list.
 pub fn tell_list<T: Located>(told: &mut Told, nodes: &Vec<T>, names: &Names, features: &Features)
-    ensures { Adds names.now (list_places (replies names.now features.now) false (nodes_in T.tree nodes.now.items)) told.old told.new }
+    ensures { AddsFaults names.now (list_places (replies names.now features.now) false (nodes_in T.tree nodes.now.items)) told.old told.new }
 {
     let _ = tell_nodes(told, nodes, names, features);
 }
@@ -70,7 +70,7 @@ pub fn tell_both<T: Located, L: Located>(
     names: &Names,
     features: &Features,
 )
-    ensures { Adds names.now (list_places (replies names.now features.now) false (closed_nodes T.tree nodes.now.items L.tree last.now)) told.old told.new }
+    ensures { AddsFaults names.now (list_places (replies names.now features.now) false (closed_nodes T.tree nodes.now.items L.tree last.now)) told.old told.new }
 {
     let opened = tell_nodes(told, nodes, names, features);
     match last {

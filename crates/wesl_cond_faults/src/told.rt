@@ -18,7 +18,7 @@ impl Told {
     ghost use Rattle.std.specs.Prelude.{◌≡◌, ◌++◌, [], ◌∷◌, ℕ, List, false};
     ghost use Rattle.wesl_cond_chains.specs.FormulaFaults.{Fault, Tells, invalid_flag, unexpected_flag};
     ghost use Rattle.wesl_cond_faults.specs.Places.{found_at};
-    ghost use Rattle.wesl_cond_faults.specs.Telling.{Adds, IsTold};
+    ghost use Rattle.wesl_cond_faults.specs.Telling.{AddsFaults, IsTold};
     ghost use Rattle.wesl_tree_names.specs.Path.{Text};
     ghost use Rattle.wesl_tree_syntax.specs.Unit.{name_in};
 
@@ -43,7 +43,7 @@ impl Told {
 
     /// Tells a fault at a place.
     pub fn tell(&mut self, fault: CondCompError, span: Span)
-        ensures { (names : List Text) → (f : Fault ℕ) → Tells names (Error.CondComp fault) f → Adds names (found_at span f ∷ []) self.old self.new }
+        ensures { (names : List Text) → (f : Fault ℕ) → Tells names (Error.CondComp fault) f → AddsFaults names (found_at span f ∷ []) self.old self.new }
     {
         let told = Diagnostic::at(Error::CondComp(fault), span);
         self.push(told);
@@ -51,7 +51,7 @@ impl Told {
 
     /// Tells a flag with template arguments.
     pub fn tell_invalid(&mut self, name: &str, span: Span)
-        ensures { (names : List Text) → (number : ℕ) → name_in names number ≡ name.now → Adds names (found_at span (invalid_flag number) ∷ []) self.old self.new }
+        ensures { (names : List Text) → (number : ℕ) → name_in names number ≡ name.now → AddsFaults names (found_at span (invalid_flag number) ∷ []) self.old self.new }
     {
         match String::from_str(self.alloc, name) {
             Ok(name) => self.tell(CondCompError::InvalidFeatureFlag(name), span),
@@ -61,7 +61,7 @@ impl Told {
 
     /// Tells a flag that is answered by a refusal.
     pub fn tell_unexpected(&mut self, name: &str, span: Span)
-        ensures { (names : List Text) → (number : ℕ) → name_in names number ≡ name.now → Adds names (found_at span (unexpected_flag number) ∷ []) self.old self.new }
+        ensures { (names : List Text) → (number : ℕ) → name_in names number ≡ name.now → AddsFaults names (found_at span (unexpected_flag number) ∷ []) self.old self.new }
     {
         match String::from_str(self.alloc, name) {
             Ok(name) => self.tell(CondCompError::UnexpectedFeatureFlag(name), span),

@@ -55,6 +55,6 @@ abbrev pub SameAnswers : Features → Features → Type 0
 SameAnswers first second = (first.default ≡ second.default) × ((name : Text) → get_by_text first.flags name ≡ get_by_text second.flags name)
 
 -- a table with what a first set and then a next one answer for each name of a list, and with nothing else that is new
-abbrev pub Adds : BTreeMap (String Global) Feature → BTreeMap (String Global) Feature → Features → Features → BTreeMap (String Global) Feature → Type 0
-Adds flags names first next added =
+abbrev pub AddsAnswers : BTreeMap (String Global) Feature → BTreeMap (String Global) Feature → Features → Features → BTreeMap (String Global) Feature → Type 0
+AddsAnswers flags names first next added =
     (name : Text) → get_by_text added name ≡ cond (is_some (get_by_text names name)) (Some (and_then (answer_to first name) (answer_to next name))) (get_by_text flags name)

@@ -3,7 +3,7 @@ ghost use Rattle.std.specs.Prelude.{◌≡◌, ℕ, List, true, IfOk, IfErr, Non
 ghost use Rattle.std.specs.BTreeMap.{get_by_text};
 ghost use Rattle.wesl_tree_names.specs.declared.errors.Error as error;
 ghost use Rattle.wesl_cond_features.specs.Answers.{opposite, both_hold, one_holds};
-ghost use Rattle.wesl_cond_features.specs.Features.{answer_to, says, and_then, SameAnswers, Adds};
+ghost use Rattle.wesl_cond_features.specs.Features.{answer_to, says, and_then, SameAnswers, AddsAnswers};
 
 use std::alloc::Global;
 use std::collections::BTreeMap;
@@ -196,7 +196,7 @@ fn add_answers(
     first: &Features,
     next: &Features,
 ) -> bool
-    ensures added { result ≡ true → Adds flags.old names.now first.now next.now flags.new }
+    ensures added { result ≡ true → AddsAnswers flags.old names.now first.now next.now flags.new }
 {
     let mut is_whole = true;
     for name in names.keys() {

@@ -148,10 +148,6 @@ module _ (spans : Bool) where
   abbrev pub ReadsStatement : StatementWord → Data → Tree → List Text → List Text → Type 0
   ReadsStatement w = ReadsWorded spans (statement_text w) (statement_head w) (statement_row w)
 
-  -- the members of a statement with this word: `k`, `span` where spans are read, and its own
-  abbrev pub statement_worded : StatementWord → Row
-  statement_worded w = worded_row spans (statement_text w) (statement_head w) (statement_row w)
-
 -- the words of `++` and `--`, which have attributes and an operand
 abbrev pub step_word : StepWord → StatementWord
 step_word steps.Increment = stated.Increment

@@ -10,7 +10,7 @@ use Rattle.wesl_json_read.specs.Faults.{Locates, LocatesRow, LocatesText}
 use Rattle.wesl_json_read.specs.Forms.{HasWord, word_at}
 use Rattle.wesl_json_read.specs.Noted.{Notes}
 use Rattle.wesl_json_read.specs.declared.reader.Reader.{Reader}
-use Rattle.wesl_json_read_statements.specs.Forms.{ReadsDeclared, ReadsStatement, declared_worded, statement_text, statement_worded}
+use Rattle.wesl_json_read_statements.specs.Forms.{ReadsDeclared, ReadsStatement, declared_worded, statement_of, statement_text}
 use Rattle.wesl_json_read_statements.specs.declared.words.DeclaredWord.{DeclaredWord}
 use Rattle.wesl_json_read_statements.specs.declared.words.StatementWord.{StatementWord}
 
@@ -20,7 +20,7 @@ NotesDeclared w d t = Notes (λ spans. ReadsDeclared spans w d t) (λ spans. Loc
 
 -- an object with this word of a statement is read as the tree, but for its span
 abbrev pub NotesStatement : StatementWord → Data → Tree → Reader → Reader → Type 0
-NotesStatement w d t = Notes (λ spans. ReadsStatement spans w d t) (λ spans. LocatesRow spans (statement_worded spans w) d)
+NotesStatement w d t = Notes (λ spans. ReadsStatement spans w d t) (λ spans. LocatesRow spans (statement_of spans w).row d)
 
 -- an object has this word of a statement; that it has none, or another value at `k`, is noted
 abbrev pub NotesStatementWord : Data → StatementWord → Reader → Reader → Type 0

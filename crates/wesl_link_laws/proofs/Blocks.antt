@@ -3,7 +3,7 @@ use Rattle.std.proofs.Common.{◌≡◌, ℕ, zero, suc, List, [], ◌∷◌, le
 use Rattle.wesl_link_reach.proofs.Lists.{contains_map}
 use Rattle.wesl_tree_syntax.specs.Unit.{UnitOf, forest_of_unit}
 use Rattle.wesl_scope_occurrences.specs.Occurrences.{Block, Occurrence, occurrences}
-use Rattle.wesl_scope_occurrences.specs.Walk.{State, walk, all_of, outermost, start}
+use Rattle.wesl_scope_occurrences.specs.Walk.{outermost, State, walk, all_of, start}
 use Rattle.wesl_scope_occurrences.specs.Ways.{way, told}
 use Rattle.wesl_scope_occurrences.specs.Laws.{WaysLeadOutwards}
 use Rattle.wesl_scope_occurrences.proofs.Joined.{Each, InBlocks, whole_joined}

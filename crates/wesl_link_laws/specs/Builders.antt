@@ -4,14 +4,13 @@ use Rattle.wesl_tree_names.specs.Path.{Text, Origin}
 use Rattle.wesl_tree_syntax.specs.Tree.{
   Kind,
   LabelOf,
-  ForestOf,
   TreeOf,
-  end,
-  tree,
+  leaf,
+  forest_of,
+  branch,
   binder,
   reference,
   word,
-  kind,
   at,
   ident,
   text,
@@ -85,17 +84,10 @@ use Rattle.wesl_tree_syntax.specs.declared.declaration.AddressSpace.{AddressSpac
 use Rattle.wesl_tree_syntax.specs.Unit.{UnitOf}
 
 module _ {I : Type 0} where
-  -- what all others are made of: trees side by side, a node with a label and one of a kind, the node that holds a span (here
-  -- from 0 to 0), what may be absent and is, what may be absent and is there, and a list:
-  abbrev pub trees : List (TreeOf I) → ForestOf I
-  trees [] = end
-  trees (t ∷ ts) = tree t.label t.children (trees ts)
-
+  -- what others are made of: a node with a label, the node that holds a span (here from 0 to 0), what may be absent and is,
+  -- what may be absent and is there, and a list:
   abbrev pub node : LabelOf I → List (TreeOf I) → TreeOf I
-  node l ts = record { label = l; children = trees ts }
-
-  abbrev pub branch : Kind → List (TreeOf I) → TreeOf I
-  branch k ts = node (kind k) ts
+  node l ts = record { label = l; children = forest_of ts }
 
   abbrev pub placed : Kind → TreeOf I → TreeOf I
   placed k t = node (at k 0 0) (t ∷ [])
@@ -111,16 +103,16 @@ module _ {I : Type 0} where
 
   -- each form of a type and of an expression, where an identifier is a reference, and expressions have their spans:
   abbrev pub plain_type : I → TreeOf I
-  plain_type x = branch type_expression (none ∷ node (ident reference x) [] ∷ none ∷ [])
+  plain_type x = branch type_expression (none ∷ leaf (ident reference x) ∷ none ∷ [])
 
   abbrev pub path_type : Origin → List Text → I → TreeOf I
-  path_type origin components x = branch type_expression (some (node (path (record { origin = origin; components = components })) []) ∷ node (ident reference x) [] ∷ none ∷ [])
+  path_type origin components x = branch type_expression (some (leaf (path (record { origin = origin; components = components }))) ∷ leaf (ident reference x) ∷ none ∷ [])
 
   abbrev pub argument : TreeOf I → TreeOf I
   argument e = branch template_argument (e ∷ [])
 
   abbrev pub type_with : I → List (TreeOf I) → TreeOf I
-  type_with x es = branch type_expression (none ∷ node (ident reference x) [] ∷ some (all (map argument es)) ∷ [])
+  type_with x es = branch type_expression (none ∷ leaf (ident reference x) ∷ some (all (map argument es)) ∷ [])
 
   abbrev pub of_type : TreeOf I → TreeOf I
   of_type t = placed expression_node (branch type_or_identifier (t ∷ []))
@@ -129,7 +121,7 @@ module _ {I : Type 0} where
   name x = of_type (plain_type x)
 
   abbrev pub literal_text : Text → TreeOf I
-  literal_text s = placed expression_node (branch literal (node (text s) [] ∷ []))
+  literal_text s = placed expression_node (branch literal (leaf (text s) ∷ []))
 
   abbrev pub operate : BinaryOperator → TreeOf I → TreeOf I → TreeOf I
   operate o l r = placed expression_node (node (binary o) (l ∷ r ∷ []))
@@ -158,19 +150,19 @@ module _ {I : Type 0} where
 
   -- an item of an import, one with a new name, a collection, an entry of one, and the path and the whole of an import:
   abbrev pub item : I → TreeOf I
-  item x = branch import_item (node (ident binder x) [] ∷ none ∷ [])
+  item x = branch import_item (leaf (ident binder x) ∷ none ∷ [])
 
   abbrev pub renamed : I → I → TreeOf I
-  renamed x y = branch import_item (node (ident word x) [] ∷ some (node (ident binder y) []) ∷ [])
+  renamed x y = branch import_item (leaf (ident word x) ∷ some (leaf (ident binder y)) ∷ [])
 
   abbrev pub collection : List (TreeOf I) → TreeOf I
   collection es = branch import_collection (all es ∷ [])
 
   abbrev pub entry : List Text → TreeOf I → TreeOf I
-  entry p c = branch import_entry (node (texts p) [] ∷ c ∷ [])
+  entry p c = branch import_entry (leaf (texts p) ∷ c ∷ [])
 
   abbrev pub path_of : Origin → List Text → TreeOf I
-  path_of origin components = some (node (path (record { origin = origin; components = components })) [])
+  path_of origin components = some (leaf (path (record { origin = origin; components = components })))
 
   abbrev pub import_of : List (TreeOf I) → TreeOf I → TreeOf I → TreeOf I
   import_of a p c = placed import_node (branch import_statement (attrs a ∷ p ∷ c ∷ []))
@@ -178,19 +170,19 @@ module _ {I : Type 0} where
   -- Each form of a declaration, of a statement, of `enable` and of their parts, where the first list is that of its attributes,
   -- and the name that it declares is a binder. Members and directives have their spans; a statement gets its by `statement`:
   abbrev pub declare : List (TreeOf I) → TreeOf I → I → TreeOf I → TreeOf I → TreeOf I
-  declare a k x t e = branch declaration (attrs a ∷ k ∷ node (ident binder x) [] ∷ t ∷ e ∷ [])
+  declare a k x t e = branch declaration (attrs a ∷ k ∷ leaf (ident binder x) ∷ t ∷ e ∷ [])
 
   abbrev pub alias : List (TreeOf I) → I → TreeOf I → TreeOf I
-  alias a x t = branch type_alias (attrs a ∷ node (ident binder x) [] ∷ t ∷ [])
+  alias a x t = branch type_alias (attrs a ∷ leaf (ident binder x) ∷ t ∷ [])
 
   abbrev pub member_of : List (TreeOf I) → Text → TreeOf I → TreeOf I
-  member_of a n t = placed member_node (branch member (attrs a ∷ node (text n) [] ∷ t ∷ []))
+  member_of a n t = placed member_node (branch member (attrs a ∷ leaf (text n) ∷ t ∷ []))
 
   abbrev pub struct_of : List (TreeOf I) → I → List (TreeOf I) → TreeOf I
-  struct_of a x ms = branch struct (attrs a ∷ node (ident binder x) [] ∷ branch members ms ∷ [])
+  struct_of a x ms = branch struct (attrs a ∷ leaf (ident binder x) ∷ branch members ms ∷ [])
 
   abbrev pub parameter_of : List (TreeOf I) → I → TreeOf I → TreeOf I
-  parameter_of a x t = branch parameter (attrs a ∷ node (ident binder x) [] ∷ t ∷ [])
+  parameter_of a x t = branch parameter (attrs a ∷ leaf (ident binder x) ∷ t ∷ [])
 
   abbrev pub statement : TreeOf I → TreeOf I
   statement s = placed statement_node s
@@ -199,7 +191,7 @@ module _ {I : Type 0} where
   body a ss = branch compound (attrs a ∷ branch statements (map statement ss) ∷ [])
 
   abbrev pub function_of : List (TreeOf I) → I → List (TreeOf I) → List (TreeOf I) → TreeOf I → TreeOf I → TreeOf I
-  function_of a x ps ra r b = branch function (attrs a ∷ node (ident binder x) [] ∷ branch parameters ps ∷ attrs ra ∷ r ∷ b ∷ [])
+  function_of a x ps ra r b = branch function (attrs a ∷ leaf (ident binder x) ∷ branch parameters ps ∷ attrs ra ∷ r ∷ b ∷ [])
 
   abbrev pub assert_of : List (TreeOf I) → TreeOf I → TreeOf I
   assert_of a e = branch const_assert (attrs a ∷ e ∷ [])
@@ -262,7 +254,7 @@ module _ {I : Type 0} where
   var_in s = branch var_kind (some (node (space s) (none ∷ [])) ∷ [])
 
   abbrev pub enable_of : List (TreeOf I) → List Text → TreeOf I
-  enable_of a ns = placed directive_node (branch enable_directive (attrs a ∷ node (texts ns) [] ∷ []))
+  enable_of a ns = placed directive_node (branch enable_directive (attrs a ∷ leaf (texts ns) ∷ []))
 
   -- a module: its imports, its directives, and its declarations without spans
   abbrev pub module_of : List (TreeOf I) → List (TreeOf I) → List (TreeOf I) → UnitOf I

@@ -112,34 +112,34 @@ free_mangled =
 abbrev pub free_mangled_row : Type 0
 free_mangled_row = is_faithful free_mangled ≡ false
 
--- In body_0 to body_4 `main` has the body shown, and the name of the function `f` of package::a prints as package_a_f.
+-- In the next five units `main` has the body shown, and the name of the function `f` of package::a prints as package_a_f.
 -- let package_a_f = package::a::f();
-abbrev pub body_0 : UnitView
-body_0 =
+abbrev pub used_in_value_of_local : UnitView
+used_in_value_of_local =
     unit_of ((codes "main") ∷ (codes "package_a_f") ∷ (codes "package_a_f") ∷ [])
     (module_of [] []
     ((function_of [] 0 [] [] none (body [] ((declare [] let_value 1 none (some (call_of (plain_type 2) []))) ∷ [])))
     ∷ (function_of [] 2 [] [] none (body [] []))
     ∷ []))
 
-abbrev pub body_0_row : Type 0
-body_0_row = is_faithful body_0 ≡ true
+abbrev pub used_in_value_of_local_row : Type 0
+used_in_value_of_local_row = is_faithful used_in_value_of_local ≡ true
 
 -- package::a::f(); let package_a_f = 1;
-abbrev pub body_1 : UnitView
-body_1 =
+abbrev pub used_before_local : UnitView
+used_before_local =
     unit_of ((codes "main") ∷ (codes "package_a_f") ∷ (codes "package_a_f") ∷ [])
     (module_of [] []
     ((function_of [] 0 [] [] none (body [] ((call_now [] (called (plain_type 1) [])) ∷ (declare [] let_value 2 none (some (literal_text (codes "1")))) ∷ [])))
     ∷ (function_of [] 1 [] [] none (body [] []))
     ∷ []))
 
-abbrev pub body_1_row : Type 0
-body_1_row = is_faithful body_1 ≡ true
+abbrev pub used_before_local_row : Type 0
+used_before_local_row = is_faithful used_before_local ≡ true
 
 -- { let package_a_f = 1; } package::a::f();
-abbrev pub body_2 : UnitView
-body_2 =
+abbrev pub used_after_block_with_local : UnitView
+used_after_block_with_local =
     unit_of ((codes "main") ∷ (codes "package_a_f") ∷ (codes "package_a_f") ∷ [])
     (module_of [] []
     ((function_of [] 0 [] [] none
@@ -147,12 +147,12 @@ body_2 =
     ∷ (function_of [] 2 [] [] none (body [] []))
     ∷ []))
 
-abbrev pub body_2_row : Type 0
-body_2_row = is_faithful body_2 ≡ true
+abbrev pub used_after_block_with_local_row : Type 0
+used_after_block_with_local_row = is_faithful used_after_block_with_local ≡ true
 
 -- loop { let package_a_f = 1; continuing { package::a::f(); } }
-abbrev pub body_3 : UnitView
-body_3 =
+abbrev pub used_in_continuing : UnitView
+used_in_continuing =
     unit_of ((codes "main") ∷ (codes "package_a_f") ∷ (codes "package_a_f") ∷ [])
     (module_of [] []
     ((function_of [] 0 [] [] none
@@ -163,12 +163,12 @@ body_3 =
     ∷ (function_of [] 2 [] [] none (body [] []))
     ∷ []))
 
-abbrev pub body_3_row : Type 0
-body_3_row = is_faithful body_3 ≡ false
+abbrev pub used_in_continuing_row : Type 0
+used_in_continuing_row = is_faithful used_in_continuing ≡ false
 
 -- for (var package_a_f = 0; ; ) { package::a::f(); }
-abbrev pub body_4 : UnitView
-body_4 =
+abbrev pub used_in_for : UnitView
+used_in_for =
     unit_of ((codes "main") ∷ (codes "package_a_f") ∷ (codes "package_a_f") ∷ [])
     (module_of [] []
     ((function_of [] 0 [] [] none
@@ -179,8 +179,8 @@ body_4 =
     ∷ (function_of [] 2 [] [] none (body [] []))
     ∷ []))
 
-abbrev pub body_4_row : Type 0
-body_4_row = is_faithful body_4 ≡ false
+abbrev pub used_in_for_row : Type 0
+used_in_for_row = is_faithful used_in_for ≡ false
 
 -- fn f() { { let x = 1; } let y = x; } where both x have one number
 abbrev pub free_with_binders_number : UnitView
@@ -253,13 +253,13 @@ abbrev pub first_of_two_locals_row : Type 0
 first_of_two_locals_row = is_faithful first_of_two_locals ≡ false
 
 -- const x = k; const k; where both k have one number: the use comes before the declaration
-abbrev pub global_before_use : UnitView
-global_before_use =
+abbrev pub global_after_use : UnitView
+global_after_use =
     unit_of ((codes "x") ∷ (codes "k") ∷ [])
     (module_of [] [] ((declare [] const_value 0 none (some (of_type (plain_type 1)))) ∷ (declare [] const_value 1 none none) ∷ []))
 
-abbrev pub global_before_use_row : Type 0
-global_before_use_row = is_faithful global_before_use ≡ true
+abbrev pub global_after_use_row : Type 0
+global_after_use_row = is_faithful global_after_use ≡ true
 
 -- fn f() { let y = x; let x = 1; } where both x have one number
 abbrev pub free_with_a_later_local_number : UnitView
@@ -308,20 +308,20 @@ unmangled_retargeted = is_retargeted unmangled ≡ false
 abbrev pub free_mangled_retargeted : Type 0
 free_mangled_retargeted = is_retargeted free_mangled ≡ false
 
-abbrev pub body_0_retargeted : Type 0
-body_0_retargeted = is_retargeted body_0 ≡ true
+abbrev pub used_in_value_of_local_retargeted : Type 0
+used_in_value_of_local_retargeted = is_retargeted used_in_value_of_local ≡ true
 
-abbrev pub body_1_retargeted : Type 0
-body_1_retargeted = is_retargeted body_1 ≡ true
+abbrev pub used_before_local_retargeted : Type 0
+used_before_local_retargeted = is_retargeted used_before_local ≡ true
 
-abbrev pub body_2_retargeted : Type 0
-body_2_retargeted = is_retargeted body_2 ≡ true
+abbrev pub used_after_block_with_local_retargeted : Type 0
+used_after_block_with_local_retargeted = is_retargeted used_after_block_with_local ≡ true
 
-abbrev pub body_3_retargeted : Type 0
-body_3_retargeted = is_retargeted body_3 ≡ false
+abbrev pub used_in_continuing_retargeted : Type 0
+used_in_continuing_retargeted = is_retargeted used_in_continuing ≡ false
 
-abbrev pub body_4_retargeted : Type 0
-body_4_retargeted = is_retargeted body_4 ≡ false
+abbrev pub used_in_for_retargeted : Type 0
+used_in_for_retargeted = is_retargeted used_in_for ≡ false
 
 abbrev pub free_with_binders_number_retargeted : Type 0
 free_with_binders_number_retargeted = is_retargeted free_with_binders_number ≡ false
@@ -335,8 +335,8 @@ two_module_names_retargeted = is_retargeted two_module_names ≡ false
 abbrev pub first_of_two_locals_retargeted : Type 0
 first_of_two_locals_retargeted = is_retargeted first_of_two_locals ≡ false
 
-abbrev pub global_before_use_retargeted : Type 0
-global_before_use_retargeted = is_retargeted global_before_use ≡ true
+abbrev pub global_after_use_retargeted : Type 0
+global_after_use_retargeted = is_retargeted global_after_use ≡ true
 
 abbrev pub free_with_a_later_local_number_retargeted : Type 0
 free_with_a_later_local_number_retargeted = is_retargeted free_with_a_later_local_number ≡ false

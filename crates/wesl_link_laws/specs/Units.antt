@@ -1,9 +1,9 @@
 -- Units of numbered identifiers, and whether their numbers are the canonical ones.
 use Rattle.std.specs.Prelude.{ℕ, Bool, bytes_eq, List, [], ◌∷◌}
 use Rattle.wesl_tree_names.specs.Path.{Text}
-use Rattle.wesl_tree_syntax.specs.Tree.{TreeOf, expression_node, call_expression}
+use Rattle.wesl_tree_syntax.specs.Tree.{TreeOf, branch, expression_node, call_expression}
 use Rattle.wesl_tree_syntax.specs.Unit.{UnitView, UnitOf, spelled, numbers}
-use Rattle.wesl_link_laws.specs.Builders.{placed, branch, called}
+use Rattle.wesl_link_laws.specs.Builders.{placed, called}
 use Rattle.wesl_link_laws.specs.Canonical.{canonical_numbers}
 
 -- an expression that calls t with these arguments

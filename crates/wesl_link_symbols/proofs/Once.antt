@@ -3,7 +3,7 @@ use Rattle.std.proofs.Common.{◌≡◌, inl, inr, ℕ, ◌≤◌, Some, arith, 
 use Rattle.wesl_link_symbols.specs.declared.symbols.Answer.TheVariants.{Declared, Next, Missing, Private, Ambiguous}
 use Rattle.wesl_link_symbols.specs.Tables.{Place, Import, LookUp, Answer, Table}
 use Rattle.wesl_link_symbols.specs.Names.{Declares, Imports, Shows, DeclaresTo, IsOpenTo, IsAskedTo, asked_by, Answers}
-use Rattle.wesl_link_symbols.specs.Laws.{AnswersOnce, AnswersOfOne, HasOneTarget, IsAsBefore}
+use Rattle.wesl_link_symbols.specs.Laws.{AnswersOnce, AnswersOfOne, HasOneTarget, AnswersPlainly}
 
 module _ {P N : Type 0} where
   -- two answers of which one is that the name stands for two things
@@ -103,5 +103,5 @@ module _ {P N : Type 0} where
     from_one Private (none, (i, held), unshown) = (λ d. none (undeclares d), λ j seen. unshown j seen.0 seen.1, (i, (held, unshown i held)))
     from_one Ambiguous x = absurd x
 
-  pub as_before : IsAsBefore P N
-  as_before t l a one = (to_one t l one a, from_one t l one a)
+  pub answered_plainly : AnswersPlainly P N
+  answered_plainly t l a one = (to_one t l one a, from_one t l one a)

@@ -31,8 +31,8 @@ pub record HasOneTarget {P N : Type 0} (t : Table P N) (n : N) : Type 0 where
   pub order : (i j : Import P N) → Imports t n i → Imports t n j → i.order ≡ j.order
 
 -- names with one target, whose imports have one `from` and one `order`, are answered as by the plain relation
-abbrev pub IsAsBefore : (P N : Type 0) → Type 0
-IsAsBefore P N = (t : Table P N) (l : LookUp P N) (a : Answer P N) → HasOneTarget t l.name → Answers t l a ↔ AnswersOfOne t l a
+abbrev pub AnswersPlainly : (P N : Type 0) → Type 0
+AnswersPlainly P N = (t : Table P N) (l : LookUp P N) (a : Answer P N) → HasOneTarget t l.name → Answers t l a ↔ AnswersOfOne t l a
 
 -- whether two are equal is decided
 abbrev pub IsDecided : Type 0 → Type 0

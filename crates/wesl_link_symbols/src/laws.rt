@@ -1,5 +1,5 @@
 //! Laws of what one table answers.
-ghost use Rattle.wesl_link_symbols.specs.Laws.{AnswersOnce, HasAnswers, IsAsBefore};
+ghost use Rattle.wesl_link_symbols.specs.Laws.{AnswersOnce, HasAnswers, AnswersPlainly};
 
 /// A table answers a look-up one way at most.
 pub fn law_of_answers<P, N>()
@@ -14,5 +14,5 @@ pub fn law_of_all<P, N>()
 /// A look-up of a name whose binders have one target and stand everywhere, and whose imports ask from one place and have one
 /// order, is answered as by the plain relation, in which conditions play no part.
 pub fn law_of_one_target<P, N>()
-    ensures { IsAsBefore P N }
+    ensures { AnswersPlainly P N }
 {}

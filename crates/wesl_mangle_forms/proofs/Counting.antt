@@ -14,7 +14,7 @@ use Rattle.std.specs.Str.Parse.{digits_value, ParsesUnsigned}
 use denote.Ref.{Bor}
 use Rattle.wesl_tree_names.specs.Path.{Text}
 use Rattle.wesl_mangle_forms.specs.Escape.{from_pieces, counted}
-use Rattle.wesl_mangle_forms.specs.Views.{texts}
+use Rattle.wesl_tree_base.specs.Borrowed.{texts}
 use Rattle.wesl_mangle_forms.proofs.Cuts.{join-append, not-true}
 
 pub joined-more : {A : Type 0} (g : A → Text) (p : Text) (items : List A) (i : ℕ) (a d : A) → i < length items → a ≡ get_or items i d

@@ -7,10 +7,10 @@ use Rattle.std.specs.Char.{is_ascii_digit}
 use Rattle.std.specs.Fmt.{decimal}
 use Rattle.std.specs.Str.{bytes_eq}
 use Rattle.wesl_tree_names.specs.Path.{Text, Origin, absolute, relative, from_package, Path}
-use Rattle.wesl_mangle_forms.specs.Escape.{pieces_of, parts_of, from_pieces, told, escaped_part, escaped_parts, escaped, escaped_origin, escaped_item, escape}
+use Rattle.wesl_mangle_forms.specs.Escape.{pieces_of, parts_of, from_pieces, with_count, escaped_part, escaped_parts, escaped, escaped_origin, escaped_item, escape}
 use Rattle.wesl_mangle_forms.specs.Identifier.{is_identifier_byte, is_ascii_identifier, begins_with_two_underscores, is_identifier_origin, has_identifiers}
 use Rattle.wesl_mangle_forms.proofs.Cuts.{and-both, or-neither, not-true, list_all-append, cut_none, clean, cut_clean, cut_some, join_longer}
-use Rattle.wesl_mangle_forms.proofs.Reading.{uncut, length-told, parts_all, decimal_all, is_line}
+use Rattle.wesl_mangle_forms.proofs.Reading.{uncut, length-with_count, parts_all, decimal_all, is_line}
 
 -- each byte
 
@@ -43,10 +43,10 @@ join-all (p ∷ q ∷ ps) h =
 decimal-bytes : (n : ℕ) → n < 2 ^ 64 → are_bytes (decimal n) ≡ true
 decimal-bytes n h = digits-bytes (decimal n) (decimal_all n h)
 
-told-all : (ps : List Text) → length ps < 2 ^ 64 → list_all are_bytes ps ≡ true → list_all are_bytes (told ps) ≡ true
-told-all [] l h = h
-told-all (p ∷ []) l h = h
-told-all (p ∷ q ∷ ps) l h =
+with_count-all : (ps : List Text) → length ps < 2 ^ 64 → list_all are_bytes ps ≡ true → list_all are_bytes (with_count ps) ≡ true
+with_count-all [] l h = h
+with_count-all (p ∷ []) l h = h
+with_count-all (p ∷ q ∷ ps) l h =
     let g = and-both (are_bytes p) (list_all are_bytes (q ∷ ps)) h in
     rw (list_all-append is_identifier_byte (decimal (length (q ∷ ps))) p (decimal-bytes (length (q ∷ ps)) (omega arith)) g.0) g.1
 
@@ -57,7 +57,7 @@ identifier-bytes (c ∷ cs) h =
     (and-both (not (bytes_eq (c ∷ cs) (codes "_"))) (are_bytes (c ∷ cs)) g.1).1
 
 part-all : (n : Text) → length (escaped_part n) < 2 ^ 64 → is_ascii_identifier n ≡ true → list_all are_bytes (escaped_part n) ≡ true
-part-all n l h = let a = length-told (pieces_of n) in told-all (pieces_of n) (omega (arith, a, l)) (cut-all is_line n (identifier-bytes n h))
+part-all n l h = let a = length-with_count (pieces_of n) in with_count-all (pieces_of n) (omega (arith, a, l)) (cut-all is_line n (identifier-bytes n h))
 
 flat-all : (ns : List Text) → length (flat_map escaped_part ns) < 2 ^ 64 → list_all is_ascii_identifier ns ≡ true → list_all are_bytes (flat_map escaped_part ns) ≡ true
 flat-all [] l h = refl
@@ -168,21 +168,21 @@ digits-begin : (ds p : Text) (ps : List Text) → 0 < length ds → list_all is_
 digits-begin [] p ps l h = absurd (omega arith)
 digits-begin (d ∷ ds) p ps l h = (and-both (is_ascii_digit d) (list_all is_ascii_digit ds) h).0
 
-told-begins : (ps rest : List Text) → length ps < 2 ^ 64 → is_ascii_identifier (from_pieces ps) ≡ true → list_all (clean is_line) ps ≡ true → begins_well (told ps ++ rest) ≡ true
-told-begins [] rest l h k = absurd (false≢true h)
-told-begins ([] ∷ []) rest l h k = absurd (false≢true h)
-told-begins ((c ∷ cs) ∷ []) rest l h k =
+with_count-begins : (ps rest : List Text) → length ps < 2 ^ 64 → is_ascii_identifier (from_pieces ps) ≡ true → list_all (clean is_line) ps ≡ true → begins_well (with_count ps ++ rest) ≡ true
+with_count-begins [] rest l h k = absurd (false≢true h)
+with_count-begins ([] ∷ []) rest l h k = absurd (false≢true h)
+with_count-begins ((c ∷ cs) ∷ []) rest l h k =
     let g = and-both (not (is_ascii_digit c)) _ h in
     let e = not-true _ (and-both (clean is_line (c ∷ cs)) true k).0 in
     rw (not-true _ g.0, (or-neither (c == 95) (list_any is_line cs) e).0) refl
-told-begins (p ∷ q ∷ ps) rest l h k =
+with_count-begins (p ∷ q ∷ ps) rest l h k =
     let n = length (q ∷ ps) in
     digits-begin (decimal n) p ((q ∷ ps) ++ rest) (decimal_nonempty n (omega arith)) (decimal_all n (omega arith))
 
 part-begins : (n : Text) (rest : List Text) → length (escaped_part n) < 2 ^ 64 → is_ascii_identifier n ≡ true → begins_well (escaped_part n ++ rest) ≡ true
 part-begins n rest l h =
-    let a = length-told (pieces_of n) in
-    told-begins (pieces_of n) rest (omega (arith, a, l)) (ap is_ascii_identifier (uncut n) ∙ h) (cut_clean is_line n)
+    let a = length-with_count (pieces_of n) in
+    with_count-begins (pieces_of n) rest (omega (arith, a, l)) (ap is_ascii_identifier (uncut n) ∙ h) (cut_clean is_line n)
 
 parts-begin : (ns rest : List Text) → 0 < length ns → length (escaped_parts ns) < 2 ^ 64 → list_all is_ascii_identifier ns ≡ true → begins_well (escaped_parts ns ++ rest) ≡ true
 parts-begin [] rest z l h = absurd (omega arith)

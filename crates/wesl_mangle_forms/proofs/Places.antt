@@ -11,7 +11,8 @@ use Rattle.std.specs.Char.{is_ascii_digit}
 use denote.Ref.{Bor}
 use Rattle.wesl_tree_names.specs.Path.{Text, Origin, from_package, relative}
 use Rattle.wesl_mangle_forms.specs.Escape.{◌>>=◌, from_parts, read_name, read_names, read_all_names, is_number, read_import, is_super, read_origin, item_below, unescaped}
-use Rattle.wesl_mangle_forms.specs.Views.{texts, name_before}
+use Rattle.wesl_tree_base.specs.Borrowed.{texts}
+use Rattle.wesl_mangle_forms.specs.Views.{name_before}
 use Rattle.wesl_mangle_forms.proofs.Cuts.{and-both, not-true}
 use Rattle.wesl_mangle_forms.proofs.Names.{names-more, names-none, read_name-shorter}
 use Rattle.wesl_mangle_forms.proofs.Reading.{own, import-step}

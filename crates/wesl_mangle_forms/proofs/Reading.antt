@@ -15,7 +15,7 @@ use Rattle.std.specs.Str.{all_ascii_digits, bytes_eq}
 use Rattle.std.specs.Str.Parse.{digits_value}
 use lib.Chars.{codes}
 use Rattle.wesl_tree_names.specs.Path.{Text, Origin, absolute, relative, from_package, Path}
-use Rattle.wesl_mangle_forms.specs.Escape.{◌>>=◌, pieces_of, parts_of, from_pieces, from_parts, told, escaped_part, escaped_parts, escaped, escaped_origin, escaped_item, escape, counted, read_name, read_names, read_all_names, read_import, is_super, read_origin, item_below, unescaped, is_word, is_plain, is_plain_origin, is_reversible}
+use Rattle.wesl_mangle_forms.specs.Escape.{◌>>=◌, pieces_of, parts_of, from_pieces, from_parts, with_count, escaped_part, escaped_parts, escaped, escaped_origin, escaped_item, escape, counted, read_name, read_names, read_all_names, read_import, is_super, read_origin, item_below, unescaped, is_word, is_plain, is_plain_origin, is_reversible}
 use Rattle.wesl_mangle_forms.specs.Laws.{IsShort, IsShortOrigin, HasShortNames, RoundTrip}
 use Rattle.wesl_mangle_forms.proofs.Cuts.{and-both, or-neither, not-true, first_fails, prefix_len-all, list_all-append, list_any-append, cut_none, clean, cut_clean, cut_some, cut_join}
 
@@ -70,22 +70,22 @@ unfolding begins_name
 begins-first [] q ps h = refl
 begins-first (c ∷ cs) q ps h = h
 
-read_name-told : (ps rest : List Text) → length ps < 2 ^ 64 → begins_name (from_pieces ps) ≡ true → read_name (told ps ++ rest) ≡ Some (from_pieces ps, rest)
+read_name-with_count : (ps rest : List Text) → length ps < 2 ^ 64 → begins_name (from_pieces ps) ≡ true → read_name (with_count ps ++ rest) ≡ Some (from_pieces ps, rest)
 unfolding begins_name
-read_name-told [] rest l h = absurd (false≢true h)
-read_name-told ([] ∷ []) rest l h = absurd (false≢true h)
-read_name-told ((c ∷ cs) ∷ []) rest l h = refl
-read_name-told (p ∷ q ∷ ps) rest l h = counted-decimal p (q ∷ ps) rest (omega arith) (begins-first p q ps h)
+read_name-with_count [] rest l h = absurd (false≢true h)
+read_name-with_count ([] ∷ []) rest l h = absurd (false≢true h)
+read_name-with_count ((c ∷ cs) ∷ []) rest l h = refl
+read_name-with_count (p ∷ q ∷ ps) rest l h = counted-decimal p (q ∷ ps) rest (omega arith) (begins-first p q ps h)
 
 begins-plain : (n : Text) → is_plain n ≡ true → begins_name n ≡ true
 unfolding begins_name
 begins-plain [] h = h
 begins-plain (c ∷ cs) h = (and-both (not (is_ascii_digit c)) _ h).0
 
-pub length-told : (ps : List Text) → length ps ≤ length (told ps)
-length-told [] = omega arith
-length-told (p ∷ []) = omega arith
-length-told (p ∷ q ∷ ps) = omega arith
+pub length-with_count : (ps : List Text) → length ps ≤ length (with_count ps)
+length-with_count [] = omega arith
+length-with_count (p ∷ []) = omega arith
+length-with_count (p ∷ q ∷ ps) = omega arith
 
 pub uncut : (n : Text) → from_pieces (pieces_of n) ≡ n
 uncut n = join_with_byte-slice_split 95 n
@@ -111,10 +111,10 @@ pub read_name-part : (n : Text) (rest : List Text) → IsShort n → is_plain n 
 read_name-part n rest l h =
     let u = uncut n in
     let b : begins_name (from_pieces (pieces_of n)) ≡ true = subst (λ (t : Text). begins_name t ≡ true) (sym u) (begins-plain n h) in
-    read_name-told (pieces_of n) rest (few-cuts _ n l) b ∙ ap (λ (t : Text). Some (t, rest)) u
+    read_name-with_count (pieces_of n) rest (few-cuts _ n l) b ∙ ap (λ (t : Text). Some (t, rest)) u
 
 pub some-part : (n : Text) → 0 < length (escaped_part n)
-some-part n = let a = length-told (pieces_of n) in let b = cut_some (λ c. c == 95) n in omega (arith, a, b)
+some-part n = let a = length-with_count (pieces_of n) in let b = cut_some (λ c. c == 95) n in omega (arith, a, b)
 
 -- lists of names
 
@@ -192,11 +192,11 @@ super-no_word (w ∷ ps) h =
     let k = or-neither (is_super w) _ g.1 in
     ap not k.0
 
-told-no_word : (ps rest : List Text) → 0 < length ps → is_word (from_pieces ps) ≡ false → starts_no_word (told ps ++ rest) ≡ true
+with_count-no_word : (ps rest : List Text) → 0 < length ps → is_word (from_pieces ps) ≡ false → starts_no_word (with_count ps ++ rest) ≡ true
 unfolding starts_no_word
-told-no_word [] rest l h = absurd (omega arith)
-told-no_word (p ∷ []) rest l h = ap not h
-told-no_word (p ∷ q ∷ ps) rest l h = refl
+with_count-no_word [] rest l h = absurd (omega arith)
+with_count-no_word (p ∷ []) rest l h = ap not h
+with_count-no_word (p ∷ q ∷ ps) rest l h = refl
 
 plain-no_word : (n : Text) → is_plain n ≡ true → is_word n ≡ false
 plain-no_word [] h = absurd (false≢true h)
@@ -213,7 +213,7 @@ plain-no_slash (c ∷ cs) h =
     not-true _ k.0
 
 part-no_word : (n : Text) (rest : List Text) → is_plain n ≡ true → starts_no_word (escaped_part n ++ rest) ≡ true
-part-no_word n rest h = told-no_word (pieces_of n) rest (cut_some (λ c. c == 95) n) (ap is_word (uncut n) ∙ plain-no_word n h)
+part-no_word n rest h = with_count-no_word (pieces_of n) rest (cut_some (λ c. c == 95) n) (ap is_word (uncut n) ∙ plain-no_word n h)
 
 escaped-plain : (n : Text) → is_plain n ≡ true → escaped n ≡ escaped_part n
 escaped-plain n h = ap escaped_parts (cut_none (λ c. c == 47) n (plain-no_slash n h))
@@ -313,10 +313,10 @@ digits_clean (c ∷ cs) h =
     let e : (c == 95) ≡ false = ne_eqb c 95 (λ e. omega (arith, e, g.0)) in
     rw e (digits_clean cs g.1)
 
-told-clean : (ps : List Text) → length ps < 2 ^ 64 → list_all (clean is_line) ps ≡ true → list_all (clean is_line) (told ps) ≡ true
-told-clean [] l h = refl
-told-clean (p ∷ []) l h = h
-told-clean (p ∷ q ∷ ps) l h =
+with_count-clean : (ps : List Text) → length ps < 2 ^ 64 → list_all (clean is_line) ps ≡ true → list_all (clean is_line) (with_count ps) ≡ true
+with_count-clean [] l h = refl
+with_count-clean (p ∷ []) l h = h
+with_count-clean (p ∷ q ∷ ps) l h =
     let g = and-both (clean is_line p) (list_all (clean is_line) (q ∷ ps)) h in
     let k : length (q ∷ ps) < 2 ^ 64 = omega arith in
     let d : list_any is_line (decimal (length (q ∷ ps)) ++ p) ≡ false =
@@ -324,7 +324,7 @@ told-clean (p ∷ q ∷ ps) l h =
     rw d g.1
 
 part-clean : (n : Text) → IsShort n → list_all (clean is_line) (escaped_part n) ≡ true
-part-clean n l = told-clean (pieces_of n) (few-cuts _ n l) (cut_clean is_line n)
+part-clean n l = with_count-clean (pieces_of n) (few-cuts _ n l) (cut_clean is_line n)
 
 flat-clean : (ns : List Text) → All IsShort ns → list_all (clean is_line) (flat_map escaped_part ns) ≡ true
 flat-clean [] l = refl

@@ -19,7 +19,7 @@ use Rattle.wesl_tree_syntax.specs.declared.expression.Expression.TheFolds.{fold_
 use Rattle.wesl_tree_syntax.specs.declared.expression.Expression.TheViews.{roll-out-TypeExpression}
 use Rattle.wesl_tree_syntax.specs.declared.expression.TypeExpression.{TypeExpression, out-TypeExpression, roll-TypeExpression}
 use Rattle.wesl_mangle_forms.specs.TypeText.{opening, between, closing, bracketed, mark_before, texts_in, tree_text, is_literal_or_type, is_normal, is_normal_type}
-use Rattle.wesl_mangle_forms.specs.Written.{Adds}
+use Rattle.wesl_mangle_forms.specs.Written.{AddsText}
 use Rattle.wesl_mangle_forms.specs.declared.writer.Writer.{Writer}
 use Rattle.wesl_mangle_forms.proofs.Cuts.{and-both}
 use Rattle.wesl_mangle_forms.proofs.Written.{then, worded}
@@ -80,7 +80,7 @@ normal_next xs i x d h is =
 
 -- a mark and one text more, after what stood before
 pub one-more : {A : Type 0} (f : A → Text) (xs : List A) (i : ℕ) (a d : A) → i < length xs → a ≡ get_or xs i d → {u v w x : Writer}
-    → Adds u v (opening ++ join_by (λ t. t) between (map f (take i xs))) → Adds v w (mark_before i) → Adds w x (f a) → Adds u x (opening ++ join_by (λ t. t) between (map f (take (i + 1) xs)))
+    → AddsText u v (opening ++ join_by (λ t. t) between (map f (take i xs))) → AddsText v w (mark_before i) → AddsText w x (f a) → AddsText u x (opening ++ join_by (λ t. t) between (map f (take (i + 1) xs)))
 one-more f xs i a d l is written mark one =
     let joined : Text = join_by (λ (t : Text). t) between (map f (take i xs)) in
     worded
@@ -89,7 +89,7 @@ one-more f xs i a d l is written mark one =
 
 -- the whole list in brackets
 pub all-of-it : {A : Type 0} (f : A → Text) (xs ys : List A) (i : ℕ) (ts : List Text) → length xs ≤ i → xs ≡ ys → map f ys ≡ ts → {u v w : Writer}
-    → Adds u v (opening ++ join_by (λ t. t) between (map f (take i xs))) → Adds v w closing → Adds u w (bracketed ts)
+    → AddsText u v (opening ++ join_by (λ t. t) between (map f (take i xs))) → AddsText v w closing → AddsText u w (bracketed ts)
 all-of-it f xs ys i ts l same seen written last =
     let e : map f (take i xs) ≡ ts = ap (map f) (take_all i xs l ∙ same) ∙ seen in
     worded

@@ -12,7 +12,7 @@ use Rattle.wesl_tree_names.specs.declared.path.PathOrigin.{PathOrigin}
 use Rattle.wesl_tree_names.specs.declared.path.PathOrigin.TheVariants.{Absolute, Relative, Package}
 use Rattle.wesl_tree_names.specs.declared.path.ModulePath.{ModulePath}
 use Rattle.wesl_mangle_forms.specs.Laws.{IsShort, IsShortOrigin, HasShortNames}
-use Rattle.wesl_mangle_forms.specs.Escape.{pieces_of, parts_of, from_pieces, from_parts, told, escaped_part, escaped_parts, escaped, escaped_origin}
+use Rattle.wesl_mangle_forms.specs.Escape.{pieces_of, parts_of, from_pieces, from_parts, with_count, escaped_part, escaped_parts, escaped, escaped_origin}
 use Rattle.wesl_mangle_forms.proofs.Cuts.{join-append}
 use Rattle.wesl_mangle_forms.proofs.Reading.{uncut, unparted, some-escaped}
 
@@ -25,24 +25,24 @@ pub through : {A E F : Type 0} (P : A → Type 0) (r : Result A E) (made : Resul
 through P (Err e) made h p = tt
 through P (Ok x) made h p = rw h at p
 
-told_one : (ps : List Text) (k : ℕ) → length ps ≡ k + 1 → k ≡ 0 → told ps ≡ ps
-told_one [] k h e = refl
-told_one (p ∷ []) k h e = refl
-told_one (p ∷ q ∷ ps) k h e = absurd (omega arith)
+with_count_one : (ps : List Text) (k : ℕ) → length ps ≡ k + 1 → k ≡ 0 → with_count ps ≡ ps
+with_count_one [] k h e = refl
+with_count_one (p ∷ []) k h e = refl
+with_count_one (p ∷ q ∷ ps) k h e = absurd (omega arith)
 
-told_more : (ps : List Text) (k : ℕ) → length ps ≡ k + 1 → k ≢ 0 → from_pieces (told ps) ≡ 95 ∷ (decimal k ++ from_pieces ps)
-told_more [] k h n = absurd (omega arith)
-told_more (p ∷ []) k h n = absurd (n (omega arith))
-told_more (p ∷ q ∷ ps) k h n =
+with_count_more : (ps : List Text) (k : ℕ) → length ps ≡ k + 1 → k ≢ 0 → from_pieces (with_count ps) ≡ 95 ∷ (decimal k ++ from_pieces ps)
+with_count_more [] k h n = absurd (omega arith)
+with_count_more (p ∷ []) k h n = absurd (n (omega arith))
+with_count_more (p ∷ q ∷ ps) k h n =
     let e : length (q ∷ ps) ≡ k = omega arith in
     ap (λ (m : ℕ). 95 ∷ ((decimal m ++ p) ++ 95 ∷ from_pieces (q ∷ ps))) e ∙ ap (95 ∷◌) (append_assoc (decimal k) p (95 ∷ from_pieces (q ∷ ps)))
 
 pub part-plain : (n : Text) → count_by (λ c. c == 95) n ≡ 0 → from_pieces (escaped_part n) ≡ n
-part-plain n h = ap from_pieces (told_one (pieces_of n) _ (length-slice_split (λ c. c == 95) n) h) ∙ uncut n
+part-plain n h = ap from_pieces (with_count_one (pieces_of n) _ (length-slice_split (λ c. c == 95) n) h) ∙ uncut n
 
 pub part-told : (n : Text) → count_by (λ c. c == 95) n ≢ 0 → from_pieces (escaped_part n) ≡ 95 ∷ (decimal (count_by (λ c. c == 95) n) ++ n)
 part-told n h =
-    told_more (pieces_of n) _ (length-slice_split (λ c. c == 95) n) h ∙ ap (λ (t : Text). 95 ∷ (decimal (count_by (λ c. c == 95) n) ++ t)) (uncut n)
+    with_count_more (pieces_of n) _ (length-slice_split (λ c. c == 95) n) h ∙ ap (λ (t : Text). 95 ∷ (decimal (count_by (λ c. c == 95) n) ++ t)) (uncut n)
 
 one_part : (ps : List Text) → length ps ≡ 1 → escaped_parts ps ≡ escaped_part (from_parts ps)
 one_part [] h = absurd (omega arith)

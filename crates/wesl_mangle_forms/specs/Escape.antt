@@ -33,14 +33,14 @@ from_parts = join_with_byte 47
 -- Writing.
 
 -- a name of one piece is itself; before another stands an underscore with the number of its underscores
-abbrev pub told : List Text → List Text
-told [] = []
-told (p ∷ []) = p ∷ []
-told (p ∷ q ∷ ps) = [] ∷ (decimal (length (q ∷ ps)) ++ p) ∷ q ∷ ps
+abbrev pub with_count : List Text → List Text
+with_count [] = []
+with_count (p ∷ []) = p ∷ []
+with_count (p ∷ q ∷ ps) = [] ∷ (decimal (length (q ∷ ps)) ++ p) ∷ q ∷ ps
 
 -- the pieces of a name without slashes, with that number before them where it has underscores
 abbrev pub escaped_part : Text → List Text
-escaped_part n = told (pieces_of n)
+escaped_part n = with_count (pieces_of n)
 
 -- several parts stand after `import` and their number
 abbrev pub escaped_parts : List Text → List Text

@@ -8,7 +8,7 @@ use Rattle.wesl_mangle_forms.specs.Escape.{escaped_part}
 use Rattle.wesl_mangle_forms.specs.declared.writer.Writer.{Writer}
 
 -- Unless memory was wanting by then: this was added, and memory was not wanting before either.
-pub record Adds (old new : Writer) (t : Text) : Type 0 where
+pub record AddsText (old new : Writer) (t : Text) : Type 0 where
   pub added : new.is_refused ≡ false → string_bytes new.text ≡ string_bytes old.text ++ t
   pub noted : new.is_refused ≡ false → old.is_refused ≡ false
 

@@ -4,8 +4,8 @@ ghost use Rattle.std.specs.Fmt.{decimal};
 ghost use Rattle.wesl_tree_names.specs.Path.{path_view, origin_view, relative};
 ghost use Rattle.wesl_tree_names.specs.declared.errors.Error as error;
 ghost use Rattle.wesl_mangle_forms.specs.Identifier.{is_ascii_identifier, begins_with_two_underscores, has_identifiers};
-ghost use Rattle.wesl_mangle_forms.specs.Views.{texts};
-ghost use Rattle.wesl_mangle_forms.specs.Written.{Adds, imported};
+ghost use Rattle.wesl_tree_base.specs.Borrowed.{texts};
+ghost use Rattle.wesl_mangle_forms.specs.Written.{AddsText, imported};
 ghost use Rattle.wesl_mangle_forms.specs.Escape.{from_pieces, parts_of, escaped_part, escaped, escaped_origin, escape, unescape, is_reversible};
 
 use crate::writer::Writer;
@@ -14,7 +14,7 @@ use wesl_tree_names::{Error, ModulePath, PathOrigin};
 
 /// Adds an underscore and the piece.
 fn push_piece(text: &mut Writer, piece: &str)
-    ensures { Adds text.old text.new (95 ∷ piece.now) }
+    ensures { AddsText text.old text.new (95 ∷ piece.now) }
 {
     text.push("_");
     text.push(piece);
@@ -43,7 +43,7 @@ fn import_count(alloc: Global, count: usize) -> Result<String, AllocError>
 
 /// Adds a part of a name, after an underscore and the number of its underscores where it has some.
 fn push_part(text: &mut Writer, part: &str)
-    ensures { Adds text.old text.new (from_pieces (escaped_part part.now)) }
+    ensures { AddsText text.old text.new (from_pieces (escaped_part part.now)) }
 {
     let count = underscores(part);
     if count == 0 {
@@ -55,7 +55,7 @@ fn push_part(text: &mut Writer, part: &str)
 
 /// Adds the parts of a package's name, after `import` and their number.
 fn push_imported(text: &mut Writer, parts: &[&str])
-    ensures { Adds text.old text.new (from_pieces (imported (texts parts.now))) }
+    ensures { AddsText text.old text.new (from_pieces (imported (texts parts.now))) }
 {
     text.add(import_count(text.alloc, parts.len()));
     for part in parts {
@@ -74,7 +74,7 @@ fn parts_of(alloc: Global, name: &str) -> Result<Vec<&str>, AllocError>
 /// Adds a name that has these parts.
 fn push_parts(text: &mut Writer, name: &str, parts: &[&str])
     requires { texts parts.now ≡ parts_of name.now }
-    ensures { Adds text.old text.new (from_pieces (escaped name.now)) }
+    ensures { AddsText text.old text.new (from_pieces (escaped name.now)) }
 {
     if parts.len() == 1 {
         push_part(text, name);
@@ -85,7 +85,7 @@ fn push_parts(text: &mut Writer, name: &str, parts: &[&str])
 
 /// Adds a name that may have several parts.
 fn push_escaped(text: &mut Writer, name: &str)
-    ensures { Adds text.old text.new (from_pieces (escaped name.now)) }
+    ensures { AddsText text.old text.new (from_pieces (escaped name.now)) }
 {
     match parts_of(text.alloc, name) {
         Ok(parts) => push_parts(text, name, parts.as_slice()),
@@ -95,7 +95,7 @@ fn push_escaped(text: &mut Writer, name: &str)
 
 /// Adds `self`, or `super` so many times.
 fn push_relative(text: &mut Writer, up: usize)
-    ensures { Adds text.old text.new (from_pieces (escaped_origin (relative up))) }
+    ensures { AddsText text.old text.new (from_pieces (escaped_origin (relative up))) }
 {
     if up == 0 {
         text.push("self");
@@ -109,7 +109,7 @@ fn push_relative(text: &mut Writer, up: usize)
 
 /// Adds what the origin is written as.
 fn push_origin(text: &mut Writer, origin: &PathOrigin)
-    ensures { Adds text.old text.new (from_pieces (escaped_origin (origin_view origin.now))) }
+    ensures { AddsText text.old text.new (from_pieces (escaped_origin (origin_view origin.now))) }
 {
     match origin {
         PathOrigin::Absolute => text.push("package"),

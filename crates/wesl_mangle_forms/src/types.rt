@@ -5,7 +5,7 @@ ghost use Rattle.std.specs.List.{list_all};
 ghost use Rattle.wesl_tree_syntax.specs.Tree.{tree_below, list};
 ghost use Rattle.wesl_tree_syntax.specs.View.{type_view, argument_view, expression_view, listed, literal_tree};
 ghost use Rattle.wesl_mangle_forms.specs.TypeText.{mark_before, tree_text, is_literal_or_type, is_normal, is_normal_type, bracketed};
-ghost use Rattle.wesl_mangle_forms.specs.Written.{Adds};
+ghost use Rattle.wesl_mangle_forms.specs.Written.{AddsText};
 
 use crate::writer::Writer;
 use wesl_tree_names::Names;
@@ -59,7 +59,7 @@ fn is_normal_argument(expression: &Expression) -> bool
 
 /// Adds the mark between two types, except before the first place.
 fn push_mark(text: &mut Writer, place: usize)
-    ensures { Adds text.old text.new (mark_before place) }
+    ensures { AddsText text.old text.new (mark_before place) }
 {
     text.push(if place == 0 { "" } else { BETWEEN });
 }
@@ -69,7 +69,7 @@ fn push_mark(text: &mut Writer, place: usize)
 fn push_type(text: &mut Writer, names: &Names, ty: &TypeExpression)
     requires below { tree_below (length names.now) (type_view ty.now) ≡ true }
     requires normal { is_normal_type (type_view ty.now) ≡ true }
-    ensures { Adds text.old text.new (tree_text names.now (type_view ty.now)) }
+    ensures { AddsText text.old text.new (tree_text names.now (type_view ty.now)) }
 {
     text.push(names.name(ty.ident));
     if let Some(arguments) = &ty.template_args {
@@ -81,7 +81,7 @@ fn push_type(text: &mut Writer, names: &Names, ty: &TypeExpression)
 fn push_arguments(text: &mut Writer, names: &Names, arguments: &Vec<TemplateArg>)
     requires below { tree_below (length names.now) (listed argument_view list arguments.now) ≡ true }
     requires normal { is_normal_type (listed argument_view list arguments.now) ≡ true }
-    ensures { Adds text.old text.new (tree_text names.now (listed argument_view list arguments.now)) }
+    ensures { AddsText text.old text.new (tree_text names.now (listed argument_view list arguments.now)) }
 {
     text.push(OPENING);
     for (place, argument) in arguments.iter().enumerate() {
@@ -95,7 +95,7 @@ fn push_arguments(text: &mut Writer, names: &Names, arguments: &Vec<TemplateArg>
 fn push_argument(text: &mut Writer, names: &Names, expression: &Expression)
     requires below { tree_below (length names.now) (expression_view expression.now) ≡ true }
     requires normal { (is_literal_or_type (expression_view expression.now).label && is_normal (expression_view expression.now).children) ≡ true }
-    ensures { Adds text.old text.new (tree_text names.now (expression_view expression.now)) }
+    ensures { AddsText text.old text.new (tree_text names.now (expression_view expression.now)) }
 {
     match expression {
         Expression::Literal(literal) => push_literal(text, literal),
@@ -111,7 +111,7 @@ fn push_argument(text: &mut Writer, names: &Names, expression: &Expression)
 
 /// Adds the literal as it is spelled.
 fn push_literal(text: &mut Writer, literal: &Literal)
-    ensures { (names : List Text) → Adds text.old text.new (tree_text names (literal_tree literal.now)) }
+    ensures { (names : List Text) → AddsText text.old text.new (tree_text names (literal_tree literal.now)) }
 {
     match literal {
         Literal::Bool(value) => text.push(if *value { "true" } else { "false" }),
@@ -123,7 +123,7 @@ fn push_literal(text: &mut Writer, literal: &Literal)
 pub fn push_types(text: &mut Writer, names: &Names, types: &[TypeExpression])
     requires below { list_all (tree_below (length names.now)) (map type_view types.now) ≡ true }
     requires normal { list_all is_normal_type (map type_view types.now) ≡ true }
-    ensures { Adds text.old text.new (bracketed (map (tree_text names.now) (map type_view types.now))) }
+    ensures { AddsText text.old text.new (bracketed (map (tree_text names.now) (map type_view types.now))) }
 {
     text.push(OPENING);
     for (place, ty) in types.iter().enumerate() {

@@ -8,7 +8,9 @@ ghost use Rattle.wesl_tree_names.specs.Path.{Text, origin_view, from_package};
 ghost use Rattle.wesl_tree_names.specs.declared.errors.Error as error;
 ghost use Rattle.wesl_mangle_forms.specs.Escape.{from_pieces, pieces_of, counted, read_name, read_names, read_all_names, is_number, read_import, read_origin, item_below, unescape, unescaped};
 ghost use Rattle.wesl_mangle_forms.specs.Items.{item_view};
-ghost use Rattle.wesl_mangle_forms.specs.Views.{texts, names_view, name_before, names_before, origin_before};
+ghost use Rattle.wesl_tree_base.specs.Borrowed.{texts};
+ghost use Rattle.wesl_tree_syntax.specs.View.{texts_of};
+ghost use Rattle.wesl_mangle_forms.specs.Views.{name_before, names_before, origin_before};
 
 use crate::numbered::told;
 use std::alloc::{AllocError, Global};
@@ -102,7 +104,7 @@ fn read_names(
 
 /// The names that the pieces are.
 fn read_all_names(alloc: Global, pieces: &[&str]) -> Result<Option<Vec<String>>, AllocError>
-    ensures { IfOk result (λ found. option_map names_view found ≡ read_all_names (length (texts pieces.now)) (texts pieces.now)) }
+    ensures { IfOk result (λ found. option_map texts_of found ≡ read_all_names (length (texts pieces.now)) (texts pieces.now)) }
 {
     let mut names = Vec::new(alloc);
     let mut place = 0;
@@ -195,7 +197,7 @@ fn read_origin(alloc: Global, pieces: &[&str]) -> Result<Option<(PathOrigin, usi
 
 /// The item whose name is the last one, of the module whose components are those before it.
 pub fn item_below(origin: PathOrigin, mut names: Vec<String>) -> Option<(ModulePath, String)>
-    ensures { option_map item_view result ≡ item_below (origin_view origin) (names_view names) }
+    ensures { option_map item_view result ≡ item_below (origin_view origin) (texts_of names) }
 {
     let item = names.pop()?;
     let path = ModulePath {
@@ -217,7 +219,7 @@ fn item_of(
     origin: PathOrigin,
     names: Result<Option<Vec<String>>, AllocError>,
 ) -> Result<Option<(ModulePath, String)>, AllocError>
-    ensures { (ns : Option (List Text)) → IfOk names (λ found. option_map names_view found ≡ ns)
+    ensures { (ns : Option (List Text)) → IfOk names (λ found. option_map texts_of found ≡ ns)
         → IfOk result (λ found. option_map item_view found ≡ option_and_then (item_below (origin_view origin)) ns) }
 {
     match names {

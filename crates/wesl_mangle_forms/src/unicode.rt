@@ -7,7 +7,7 @@ ghost use Rattle.wesl_tree_syntax.specs.Tree.{tree_below};
 ghost use Rattle.wesl_tree_syntax.specs.View.{type_view};
 ghost use Rattle.wesl_mangle_forms.specs.Items.{IsRefusedVariant};
 ghost use Rattle.wesl_mangle_forms.specs.TypeText.{is_normal_type, unicode_variant};
-ghost use Rattle.wesl_mangle_forms.specs.Written.{Adds};
+ghost use Rattle.wesl_mangle_forms.specs.Written.{AddsText};
 ghost use Rattle.wesl_mangle_forms.specs.Unicode.{separator, from_words, origin_words, unicode, from_unicode, has_own_words};
 
 use crate::types::{is_normal_type, push_types};
@@ -21,7 +21,7 @@ pub const SEPARATOR: &str = "\u{2d0}\u{2d0}";
 
 /// Adds a separator and the word.
 fn push_word(text: &mut Writer, word: &str)
-    ensures { Adds text.old text.new (separator ++ word.now) }
+    ensures { AddsText text.old text.new (separator ++ word.now) }
 {
     text.push(SEPARATOR);
     text.push(word);
@@ -29,7 +29,7 @@ fn push_word(text: &mut Writer, word: &str)
 
 /// Adds `self`, or `super` so many times.
 fn push_relative(text: &mut Writer, up: usize)
-    ensures { Adds text.old text.new (from_words (origin_words (relative up))) }
+    ensures { AddsText text.old text.new (from_words (origin_words (relative up))) }
 {
     if up == 0 {
         text.push("self");
@@ -43,7 +43,7 @@ fn push_relative(text: &mut Writer, up: usize)
 
 /// Adds what the origin is written as.
 fn push_origin(text: &mut Writer, origin: &PathOrigin)
-    ensures { Adds text.old text.new (from_words (origin_words (origin_view origin.now))) }
+    ensures { AddsText text.old text.new (from_words (origin_words (origin_view origin.now))) }
 {
     match origin {
         PathOrigin::Absolute => text.push("package"),

@@ -4,7 +4,9 @@ ghost use Rattle.wesl_tree_names.specs.declared.errors.Error as error;
 ghost use Rattle.wesl_mangle_forms.specs.Escape.{item_below};
 ghost use Rattle.wesl_mangle_forms.specs.Items.{item_view};
 ghost use Rattle.wesl_mangle_forms.specs.Unicode.{words_of, read_origin_words, item_of_words, from_unicode};
-ghost use Rattle.wesl_mangle_forms.specs.Views.{texts, names_view, origin_before, ReadsBelow};
+ghost use Rattle.wesl_tree_base.specs.Borrowed.{texts};
+ghost use Rattle.wesl_tree_syntax.specs.View.{texts_of};
+ghost use Rattle.wesl_mangle_forms.specs.Views.{origin_before, ReadsBelow};
 
 use crate::numbered::told;
 use crate::unescape::item_below;
@@ -44,7 +46,7 @@ fn read_origin(alloc: Global, words: &[&str]) -> Result<Option<(PathOrigin, usiz
 
 /// Copies of the words.
 fn copied(alloc: Global, words: &[&str]) -> Result<Vec<String>, AllocError>
-    ensures { IfOk result (λ names. names_view names ≡ texts words.now) }
+    ensures { IfOk result (λ names. texts_of names ≡ texts words.now) }
 {
     let mut names = Vec::new(alloc);
     for word in words {

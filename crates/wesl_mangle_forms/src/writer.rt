@@ -2,7 +2,7 @@
 ghost use Rattle.std.specs.Prelude.{◌≡◌, [], IfOk, IfErr, string_bytes};
 ghost use Rattle.wesl_tree_names.specs.declared.errors.Error as error;
 ghost use Rattle.wesl_tree_names.specs.Path.{Text};
-ghost use Rattle.wesl_mangle_forms.specs.Written.{Adds, Says};
+ghost use Rattle.wesl_mangle_forms.specs.Written.{AddsText, Says};
 
 use std::alloc::{AllocError, Global};
 use wesl_tree_names::Error;
@@ -30,14 +30,14 @@ impl Writer {
 
     /// Adds the piece.
     pub fn push(&mut self, piece: &str)
-        ensures { Adds self.old self.new piece.now }
+        ensures { AddsText self.old self.new piece.now }
     {
         self.is_refused = self.is_refused || self.text.push_str(piece).is_err();
     }
 
     /// Adds the piece that was made, if it was.
     pub fn add(&mut self, piece: Result<String, AllocError>)
-        ensures { (t : Text) → IfOk piece (λ s. string_bytes s ≡ t) → Adds self.old self.new t }
+        ensures { (t : Text) → IfOk piece (λ s. string_bytes s ≡ t) → AddsText self.old self.new t }
     {
         match piece {
             Ok(piece) => self.push(piece.as_str()),
@@ -47,7 +47,7 @@ impl Writer {
 
     /// Notes that memory was wanting.
     pub fn refuse(&mut self)
-        ensures { (t : Text) → Adds self.old self.new t }
+        ensures { (t : Text) → AddsText self.old self.new t }
     {
         self.is_refused = true;
     }

@@ -21,7 +21,7 @@ use Rattle.wesl_program_bundle.specs.declared.members.BundleError.{BundleError}
 use Rattle.wesl_program_bundle.specs.Broken.{Locates}
 use Rattle.wesl_program_bundle.specs.Features.{Flag, feature_in, flags_of, listed_answer}
 use Rattle.wesl_program_bundle.specs.Forms.{IsBroken, a_feature, an_object_of}
-use Rattle.wesl_program_bundle.specs.Parts.{IsFlagFault, IsUnread, IsWithFlag}
+use Rattle.wesl_program_bundle.specs.Parts.{IsFlagFault, IsUnreadUnder, IsWithFlag}
 use Rattle.wesl_program_bundle.specs.Views.{flag_view, flags_view}
 use Rattle.wesl_program_bundle.proofs.Places.{IfPlace-memory, Locates-here, Locates-member}
 
@@ -112,14 +112,14 @@ module _ (d : Data) (done : List Entry) where
   AreFlags flags = IfOk flags (λ f. flags_of (members_view done) ≡ Some (flags_view f)) × IfErr flags (Locates (an_object_of a_feature) d)
 
 module _ (d : Data) (done : List Entry) (e : Entry) (more : List Entry) (is : as_object d ≡ Some (members_view (done ++ e ∷ more))) (sorted : IsStrictlySortedBy string_cmp (keys_of (done ++ e ∷ more))) where
-  module _ (flags : Result (BTreeMap (String Global) Feature) BundleError) (before : AreFlags d done flags) (read : Option Feature) (same : feature_in (view e.1) ≡ read) (answer : Result Feature BundleError) (good : IfOk answer (λ x. read ≡ Some x)) (bad : IfErr answer (IsUnread (string_bytes e.0) read)) where
+  module _ (flags : Result (BTreeMap (String Global) Feature) BundleError) (before : AreFlags d done flags) (read : Option Feature) (same : feature_in (view e.1) ≡ read) (answer : Result Feature BundleError) (good : IfOk answer (λ x. read ≡ Some x)) (bad : IfErr answer (IsUnreadUnder (string_bytes e.0) read)) where
     grown : (all : BTreeMap (String Global) Feature) → IsWithFlag flags e.0 answer all → flags_of (members_view (done ++ e ∷ [])) ≡ Some (flags_view all)
     grown all (earlier, last, was, this, (own, named, added)) =
         flags-turn done earlier.entries all.entries e more own last
         (IfOk-at_ok (λ (f : BTreeMap (String Global) Feature). flags_of (members_view done) ≡ Some (flags_view f)) was before.0) sorted named
         (same ∙ IfOk-at_ok (λ x. read ≡ Some x) this good) added
 
-    wrong : (fault : BundleError) → IsUnread (string_bytes e.0) read fault → Locates (an_object_of a_feature) d fault
+    wrong : (fault : BundleError) → IsUnreadUnder (string_bytes e.0) read fault → Locates (an_object_of a_feature) d fault
     wrong fault (inner, none, here, under) =
         let found : get (string_bytes e.0) d ≡ Some (view e.1) = object-get (string_bytes e.0) d (members_view (done ++ e ∷ more)) is ∙ found-middle done e more sorted in
         Locates-member a_feature (string_bytes e.0) d (view e.1) inner fault found (Locates-here a_feature (view e.1) inner here (same ∙ none)) under
@@ -127,7 +127,7 @@ module _ (d : Data) (done : List Entry) (e : Entry) (more : List Entry) (is : as
     faulty : (fault : BundleError) → IsFlagFault flags answer fault → Locates (an_object_of a_feature) d fault
     faulty fault (inl refused) = IfPlace-memory (IsBroken (an_object_of a_feature) d) fault refused
     faulty fault (inr (inl was)) = IfErr-at_err (Locates (an_object_of a_feature) d) was before.1
-    faulty fault (inr (inr this)) = wrong fault (IfErr-at_err (IsUnread (string_bytes e.0) read) this bad)
+    faulty fault (inr (inr this)) = wrong fault (IfErr-at_err (IsUnreadUnder (string_bytes e.0) read) this bad)
 
     -- a turn of the loop
     pub one-flag : (all : Result (BTreeMap (String Global) Feature) BundleError) → IfOk all (IsWithFlag flags e.0 answer) → IfErr all (IsFlagFault flags answer) → AreFlags d (done ++ e ∷ []) all

@@ -8,7 +8,7 @@ use Rattle.wesl_json_form.specs.Pointer.{key}
 use Rattle.wesl_program_bundle.specs.declared.members.BundleError.{BundleError}
 use Rattle.wesl_program_bundle.specs.Broken.{Locates, LocatesMember, place_of}
 use Rattle.wesl_program_bundle.specs.Forms.{Field, Form, IsWrong, IsWrongObject, fields, find_field}
-use Rattle.wesl_program_bundle.specs.Parts.{IsEither, IsFaultUnder, IsKeyOr, IsUnread}
+use Rattle.wesl_program_bundle.specs.Parts.{IsEither, IsFaultUnder, IsKeyOr, IsUnreadUnder}
 use Rattle.wesl_program_bundle.proofs.Places.{Locates-field, Locates-here, LocatesMember-under}
 
 -- what a part is
@@ -58,7 +58,7 @@ of-inside f d v whole r found told h =
     (λ e (inner, is, under). LocatesMember-under f d v inner e found (IfErr-at_err (Locates f.form v) is h) under) told
 
 -- nothing is read of what is there
-pub of-stated : {A : Type 0} (f : Field) (d v : Data) (whole : Result A BundleError) (r : Option A) → get f.named d ≡ Some v → IfErr whole (IsUnread f.named r) → (r ≡ None → IsWrong f.form v) → IfErr whole (LocatesMember f d)
+pub of-stated : {A : Type 0} (f : Field) (d v : Data) (whole : Result A BundleError) (r : Option A) → get f.named d ≡ Some v → IfErr whole (IsUnreadUnder f.named r) → (r ≡ None → IsWrong f.form v) → IfErr whole (LocatesMember f d)
 of-stated f d v whole r found told wrong =
-    IfErr-weaker whole (IsUnread f.named r) (LocatesMember f d)
+    IfErr-weaker whole (IsUnreadUnder f.named r) (LocatesMember f d)
     (λ e (inner, none, here, under). LocatesMember-under f d v inner e found (Locates-here f.form v inner here (wrong none)) under) told

@@ -26,8 +26,8 @@ abbrev pub IsFaultUnder : {A : Type 0} → Part → Result A BundleError → Bun
 IsFaultUnder part read e = (inner : BundleError) × (read ≡ Err inner) × IsUnder part inner e
 
 -- nothing is read, which is told of what has it as its member k
-abbrev pub IsUnread : {A : Type 0} → Text → Option A → BundleError → Type 0
-IsUnread k read e = (inner : BundleError) × (read ≡ None) × (place_of inner ≡ Some []) × IsUnder (key k) inner e
+abbrev pub IsUnreadUnder : {A : Type 0} → Text → Option A → BundleError → Type 0
+IsUnreadUnder k read e = (inner : BundleError) × (read ≡ None) × (place_of inner ≡ Some []) × IsUnder (key k) inner e
 
 -- a list and a further item are read as this list
 abbrev pub IsWithItem : {A : Type 0} → Result (Vec A Global) BundleError → Result A BundleError → Vec A Global → Type 0

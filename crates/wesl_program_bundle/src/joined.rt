@@ -5,7 +5,7 @@ ghost use Rattle.std.specs.Prelude.{◌≡◌, Ok, Some, IfOk, IfErr, OnOk, map,
 ghost use Rattle.wesl_json_form.specs.View.{borrowed_view};
 ghost use Rattle.wesl_json_form.specs.Keys.{has_only};
 ghost use Rattle.wesl_json_form.specs.Pointer.{index as index_part, key as key_part};
-ghost use Rattle.wesl_program_bundle.specs.Parts.{IsEither, IsFaultUnder, IsItemFault, IsKeyOr, IsUnread, IsWithItem};
+ghost use Rattle.wesl_program_bundle.specs.Parts.{IsEither, IsFaultUnder, IsItemFault, IsKeyOr, IsUnreadUnder, IsWithItem};
 
 use crate::members::{BundleError, under, under_index, wrong};
 use std::alloc::Global;
@@ -64,7 +64,7 @@ pub(crate) fn inside<T: Drop>(
 // What is read of the member at a key, which is wrong where nothing is read of it.
 pub(crate) fn stated<T: Drop>(alloc: Global, key: &str, read: Option<T>) -> Result<T, BundleError>
     ensures ok { IfOk result (λ x. read ≡ Some x) }
-    ensures place { IfErr result (IsUnread key.now read) }
+    ensures place { IfErr result (IsUnreadUnder key.now read) }
 {
     match read {
         Some(part) => Ok(part),

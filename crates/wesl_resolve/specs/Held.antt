@@ -18,8 +18,8 @@ abbrev pub reader_of : {P : Type 0} → VirtualResolver P → P
 reader_of s = s.text
 
 -- the packages, in the order in which they were added
-abbrev pub packages_of : {P : Type 0} → PkgResolver P → List CodegenPkg
-packages_of s = s.packages.items
+abbrev pub added_packages : {P : Type 0} → PkgResolver P → List CodegenPkg
+added_packages s = s.packages.items
 
 -- what reads the sources of the packages as units
 abbrev pub package_reader_of : {P : Type 0} → PkgResolver P → P

@@ -6,7 +6,7 @@ use Rattle.wesl_tree_names.specs.declared.errors.Error.{Error}
 use Rattle.wesl_tree_names.specs.declared.errors.ResolveError.{ResolveError}
 use Rattle.wesl_tree_syntax.specs.Unit.{UnitOf}
 use Rattle.wesl_resolve.specs.ByOrigin.{ByOrigin}
-use Rattle.wesl_resolve.specs.Held.{packages_of, package_reader_of, package_resolver_of, local_of}
+use Rattle.wesl_resolve.specs.Held.{added_packages, package_reader_of, package_resolver_of, local_of}
 use Rattle.wesl_resolve_base.specs.Packages.{IsMissingIn, IsReadIn, IsRefusedIn, IsSourceIn}
 use Rattle.wesl_resolve_base.specs.Resolver.{MeansTheSame}
 use Rattle.wesl_resolve_base.specs.declared.packages.CodegenPkg.{CodegenPkg}
@@ -15,7 +15,7 @@ use Rattle.wesl_resolve.specs.declared.standard.StandardResolver.{StandardResolv
 module _ {R P : Type 0} where
   -- the packages, in the order in which they were added
   abbrev pub standard_packages : StandardResolver R P → List CodegenPkg
-  standard_packages s = packages_of (package_resolver_of s)
+  standard_packages s = added_packages (package_resolver_of s)
 
   -- what reads the sources of the packages
   abbrev pub standard_reader : StandardResolver R P → P

@@ -41,12 +41,12 @@ impl<P: Drop> Drop for PkgResolver<P> {
 }
 
 impl<P> PkgResolver<P> {
-    ghost use Rattle.wesl_resolve.specs.Held.{packages_of, package_reader_of};
+    ghost use Rattle.wesl_resolve.specs.Held.{added_packages, package_reader_of};
 
     /// A resolver without packages, which will read sources by `text`. It takes no memory.
     pub fn new(alloc: Global, text: P) -> PkgResolver<P>
         ensures text { package_reader_of result ≡ text }
-        ensures packages { packages_of result ≡ [] }
+        ensures packages { added_packages result ≡ [] }
     {
         PkgResolver {
             text,
@@ -57,8 +57,8 @@ impl<P> PkgResolver<P> {
 
     /// Adds a package after the others. Refused for want of memory alone, which leaves the packages as they were.
     pub fn add_package(&mut self, package: CodegenPkg) -> Result<(), Error>
-        ensures added { OnOk result (packages_of self.new ≡ packages_of self.old ++ «package» ∷ []) }
-        ensures kept { OnErr result (packages_of self.new ≡ packages_of self.old) }
+        ensures added { OnOk result (added_packages self.new ≡ added_packages self.old ++ «package» ∷ []) }
+        ensures kept { OnErr result (added_packages self.new ≡ added_packages self.old) }
         ensures text { package_reader_of self.new ≡ package_reader_of self.old }
         ensures refused { IfErr result (λ e. e ≡ error.Memory) }
     {
@@ -67,24 +67,24 @@ impl<P> PkgResolver<P> {
 }
 
 impl<P> PkgResolver<P> {
-    ghost use Rattle.wesl_resolve.specs.Held.{packages_of};
+    ghost use Rattle.wesl_resolve.specs.Held.{added_packages};
 
     /// A module that says what the one at a path says.
     fn module_at(&self, alloc: Global, path: &ModulePath) -> Result<&CodegenModule, ResolveError>
-        ensures found { IfOk result (λ m. IsSourceIn (packages_of self.now) (path_view path.now) (source_of m.now)) }
-        ensures missing { IfErr result (OrMemory (IsMissingIn (packages_of self.now) (path_view path.now))) }
+        ensures found { IfOk result (λ m. IsSourceIn (added_packages self.now) (path_view path.now) (source_of m.now)) }
+        ensures missing { IfErr result (OrMemory (IsMissingIn (added_packages self.now) (path_view path.now))) }
     {
         self.index.module_at(alloc, &self.packages, path)
     }
 }
 
 impl<P: UnitText> PkgResolver<P> {
-    ghost use Rattle.wesl_resolve.specs.Held.{packages_of, package_reader_of};
+    ghost use Rattle.wesl_resolve.specs.Held.{added_packages, package_reader_of};
 
     /// The unit of the module at a path.
     fn read_at(&self, alloc: Global, path: &ModulePath) -> Result<TranslationUnit, ResolveError>
-        ensures read { IfOk result (λ u. IsReadIn (P.reads (package_reader_of self.now)) (packages_of self.now) (path_view path.now) (spelled (unit_view u))) }
-        ensures refused { IfErr result (OrMemory (IsRefusedIn (P.unreadable (package_reader_of self.now)) (packages_of self.now) (path_view path.now))) }
+        ensures read { IfOk result (λ u. IsReadIn (P.reads (package_reader_of self.now)) (added_packages self.now) (path_view path.now) (spelled (unit_view u))) }
+        ensures refused { IfErr result (OrMemory (IsRefusedIn (P.unreadable (package_reader_of self.now)) (added_packages self.now) (path_view path.now))) }
     {
         match self.module_at(alloc, path) {
             Ok(module) => read_module(&self.text, alloc, path, module.source.as_str()),
@@ -95,24 +95,24 @@ impl<P: UnitText> PkgResolver<P> {
 
 impl<P: UnitText> Resolver for PkgResolver<P> {
     ghost use Rattle.wesl_resolve_base.specs.Packages.{IsMissingIn, IsReadIn, IsRefusedIn, IsSourceIn};
-    ghost use Rattle.wesl_resolve.specs.Held.{packages_of, package_reader_of};
+    ghost use Rattle.wesl_resolve.specs.Held.{added_packages, package_reader_of};
 
     ghost ready = { λ _. Unit {0} };
 
-    ghost hands = { λ s p u. IsReadIn (P.reads (package_reader_of s)) (packages_of s) p u };
+    ghost hands = { λ s p u. IsReadIn (P.reads (package_reader_of s)) (added_packages s) p u };
 
-    ghost refuses = { λ s p e. IsRefusedIn (P.unreadable (package_reader_of s)) (packages_of s) p e };
+    ghost refuses = { λ s p e. IsRefusedIn (P.unreadable (package_reader_of s)) (added_packages s) p e };
 
-    ghost source = { λ s p text. IsSourceIn (packages_of s) p text };
+    ghost source = { λ s p text. IsSourceIn (added_packages s) p text };
 
-    ghost lacks = { λ s p e. IsMissingIn (packages_of s) p e };
+    ghost lacks = { λ s p e. IsMissingIn (added_packages s) p e };
 
     ghost shown = { λ _ p name. name ≡ None };
 
     /// The source of the module at a path. Refused where there is none, and for want of memory.
     fn resolve_source(&mut self, alloc: Global, path: &ModulePath) -> Result<String, ResolveError>
-        ensures given { IfOk result (λ text. IsSourceIn (packages_of self.old) (path_view path.now) (string_bytes text)) }
-        ensures refused { IfErr result (OrMemory (IsMissingIn (packages_of self.old) (path_view path.now))) }
+        ensures given { IfOk result (λ text. IsSourceIn (added_packages self.old) (path_view path.now) (string_bytes text)) }
+        ensures refused { IfErr result (OrMemory (IsMissingIn (added_packages self.old) (path_view path.now))) }
         ensures unchanged { self.new ≡ self.old }
     {
         match self.module_at(alloc, path) {
@@ -128,8 +128,8 @@ impl<P: UnitText> Resolver for PkgResolver<P> {
         alloc: Global,
         path: &ModulePath,
     ) -> Result<TranslationUnit, ResolveError>
-        ensures handed { IfOk result (λ u. IsReadIn (P.reads (package_reader_of self.old)) (packages_of self.old) (path_view path.now) (spelled (unit_view u))) }
-        ensures refused { IfErr result (OrMemory (IsRefusedIn (P.unreadable (package_reader_of self.old)) (packages_of self.old) (path_view path.now))) }
+        ensures handed { IfOk result (λ u. IsReadIn (P.reads (package_reader_of self.old)) (added_packages self.old) (path_view path.now) (spelled (unit_view u))) }
+        ensures refused { IfErr result (OrMemory (IsRefusedIn (P.unreadable (package_reader_of self.old)) (added_packages self.old) (path_view path.now))) }
         ensures unchanged { self.new ≡ self.old }
     {
         self.read_at(alloc, path)

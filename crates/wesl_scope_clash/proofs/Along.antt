@@ -15,7 +15,7 @@ use Rattle.wesl_scope_occurrences.proofs.Collecting.{collected_occurrences}
 use Rattle.wesl_scope_open.specs.Matched.{AreMetBelow}
 use Rattle.wesl_scope_open.proofs.Runs.{or_again, or_none}
 use Rattle.wesl_scope_clash.specs.declared.agreed.Agreed.{Agreed}
-use Rattle.wesl_scope_clash.specs.Judging.{with_number, Row, Judging, seen_here, taken_back, name_at, meeting, judging, judged}
+use Rattle.wesl_scope_clash.specs.Judging.{with_number, Row, Judging, seen_here, visible_again, name_at, meeting, judging, judged}
 use Rattle.wesl_scope_clash.proofs.Walked.{differs, is_there, with_differs, Tests, marked, outside_wide}
 
 -- ---- identifiers, by what is told when they are met
@@ -104,7 +104,7 @@ module _ (alike : List ℕ) (wide count : ℕ) where
   fits_met s (reference (Some y)) here i f = f
   fits_met s word here i f = f
 
-  fits_back : (s : Judging) (rs : List Row) → Fits wide count s → Fits wide count (taken_back rs s)
+  fits_back : (s : Judging) (rs : List Row) → Fits wide count s → Fits wide count (visible_again rs s)
   fits_back s [] f = f
   fits_back s (r ∷ rs) f = record { globals = f.globals; declares = f.declares; bound = f.bound; outside = f.outside }
 
@@ -121,7 +121,7 @@ module _ (alike : List ℕ) (wide count : ℕ) where
     pub other : (s : Judging) (row : Row) (rows : List Row) → g (record s { visible = row; outer = rows }) ≡ g s
 
   module _ (g : Judging → Bool) (q : Standing → ℕ → Bool) (is : Gathers g q) where
-    back : (s : Judging) (rs : List Row) → g (taken_back rs s) ≡ g s
+    back : (s : Judging) (rs : List Row) → g (visible_again rs s) ≡ g s
     back s [] = refl
     back s (r ∷ rs) = is.other s r rs
 
@@ -131,7 +131,7 @@ module _ (alike : List ℕ) (wide count : ℕ) where
     gathered (meets here r i ∷ es) s below f =
         gathered es (meeting alike r here i s) below.1 (fits_met s r here i f) ∙ (ap (λ b. b || any_met q es) (is.met s r here i below.0 f) ∙ or_again (g s) (q r i) (any_met q es))
     gathered (opens ∷ es) s below f = gathered es (judging alike s opens) below.1 (fits_next s opens f) ∙ ap (λ b. b || any_met q es) (is.other s s.visible (s.visible ∷ s.outer))
-    gathered (closes ∷ es) s below f = gathered es (taken_back s.outer s) below.1 (fits_back s s.outer f) ∙ ap (λ b. b || any_met q es) (back s s.outer)
+    gathered (closes ∷ es) s below f = gathered es (visible_again s.outer s) below.1 (fits_back s s.outer f) ∙ ap (λ b. b || any_met q es) (back s s.outer)
     gathered (ends here i ∷ es) s below f = gathered es (judging alike s (ends here i)) below.1 (fits_next s (ends here i) f) ∙ ap (λ b. b || any_met q es) (is.other s _ s.outer)
 
   -- ---- the marks

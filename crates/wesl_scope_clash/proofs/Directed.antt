@@ -3,7 +3,7 @@ use Rattle.std.proofs.Common.{◌≡◌, ℕ, zero, suc, ◌<◌, true, List, []
 use Rattle.wesl_tree_syntax.specs.Tree.{forest_below}
 use Rattle.wesl_tree_syntax.specs.Unit.{UnitOf, forest_of_unit}
 use Rattle.wesl_scope_occurrences.specs.Occurrences.{Block, OccurrenceIn, Occurrence, occurrences}
-use Rattle.wesl_scope_occurrences.specs.Walk.{all_of, outermost, start, walk}
+use Rattle.wesl_scope_occurrences.specs.Walk.{outermost, all_of, start, walk}
 use Rattle.wesl_scope_occurrences.specs.Ways.{AreNested, told, way}
 use Rattle.wesl_scope_occurrences.proofs.Bounds.{NameBelow, names_below, module_node}
 use Rattle.wesl_scope_occurrences.proofs.Joined.{Each, InBlocks, whole_joined, way_module, way_unfolds}

@@ -19,7 +19,7 @@ use Rattle.wesl_scope_open.proofs.Whole.{unit_numbered}
 use Rattle.wesl_scope_clash.specs.Test.{are_apart, all_read_right}
 use Rattle.wesl_scope_meanings.specs.Spellings.{AreSpellings}
 use Rattle.wesl_scope_clash.specs.Judging.{Judging, name_at, judged, apart_at, outside_at, all_below, begun}
-use Rattle.wesl_scope_clash.specs.Judges.{IsKept, known, Follows}
+use Rattle.wesl_scope_clash.specs.Judges.{HasMemory, known, Follows}
 use Rattle.wesl_scope_clash.specs.Begun.{IsBegun}
 use Rattle.wesl_scope_clash.specs.declared.judge.Judge.{Judge}
 use Rattle.wesl_scope_meanings.proofs.Spelling.{as_many, spelled_below, spelled_so}
@@ -41,7 +41,7 @@ are_alike names texts alike s = record {
 }
 
 module _ (names : List Text) (is : Vec (Spanned ImportStatement) Global) (ds : Vec (Spanned GlobalDirective) Global) (gs : Vec (Spanned GlobalDeclaration) Global) (named : forest_below (length names) (forest_of_unit (unit_numbered is ds gs)) ≡ true)
-    (old new : Judge) (begins : IsBegun names old) (told : Follows (events (unit_numbered is ds gs)) old new) (kept : IsKept new) where
+    (old new : Judge) (begins : IsBegun names old) (told : Follows (events (unit_numbered is ds gs)) old new) (kept : HasMemory new) where
   abbrev alike : List ℕ
   alike = old.alike.items
 

@@ -10,7 +10,7 @@ use Rattle.wesl_tree_names.specs.Path.{Text}
 use Rattle.wesl_tree_syntax.specs.Unit.{UnitView, name_in, trees_of}
 use Rattle.wesl_scope_occurrences.specs.Occurrences.{Occurrence, occurrences, is_binder, is_unqualified}
 use Rattle.wesl_scope_clash.specs.Faithful.{is_global, name_of, binders_of, AgreeOn, ReadRight, IsFaithful}
-use Rattle.wesl_scope_clash.specs.Test.{is_named, is_one, are_apart, has_number, agree_on, reads_right, all_read_right, is_faithful}
+use Rattle.wesl_scope_clash.specs.Test.{is_named, shares_number, are_apart, has_number, agree_on, reads_right, all_read_right, is_faithful}
 
 pub all_decides : {X : Type 0} (p : X → Bool) (P : X → Type 0) → ((x : X) → Decides (p x) (P x)) → (xs : List X) → Decides (list_all p xs) (All P xs)
 all_decides p P each xs = Decides-by_and p P (list_all p) each refl (λ _ _. refl) xs
@@ -45,7 +45,7 @@ module _ (names : List Text) (all : List (Occurrence ℕ)) where
   abbrev IsOne : Occurrence ℕ → Occurrence ℕ → Type 0
   IsOne a b = is_global b ≡ true → name_of names all b ≡ name_of names all a → b.name ≡ a.name
 
-  one_decides : (a : Occurrence ℕ) → Decides (is_one names all a) (is_global a ≡ true → All (IsOne a) all)
+  one_decides : (a : Occurrence ℕ) → Decides (shares_number names all a) (is_global a ≡ true → All (IsOne a) all)
   one_decides a =
       if_decides (is_global a) (list_all (λ b. if is_named names (name_in names a.name) b then b.name == a.name else true) all)
       (all_decides (λ b. if is_named names (name_in names a.name) b then b.name == a.name else true) (IsOne a)
@@ -64,7 +64,7 @@ module _ (names : List Text) (all : List (Occurrence ℕ)) where
 
   read_decides : Decides (are_apart names all && all_read_right names all) (ReadRight names all)
   read_decides =
-      let first = all_decides (is_one names all) (λ a. is_global a ≡ true → All (IsOne a) all) one_decides all in
+      let first = all_decides (shares_number names all) (λ a. is_global a ≡ true → All (IsOne a) all) one_decides all in
       let second = all_decides (reads_right names all) (λ r. is_unqualified r.role ≡ true → AgreeOn names all r.name (binders_of names all (name_of names all r) r.place r.block)) right_decides all in
       let both = Decides-and (are_apart names all) (all_read_right names all) first second in
       (λ e. let h = both.0 e in record { module_names_apart = h.0; references_read_right = h.1 }, λ f. both.1 (f.module_names_apart, f.references_read_right))

@@ -9,9 +9,9 @@ use Rattle.std.proofs.lemmas.Bool.{cases_lt}
 use Rattle.std.proofs.lemmas.Bool.Decides.{eqb_tells, Decides-eqb}
 use Rattle.wesl_tree_syntax.specs.Unit.{name_in}
 use Rattle.wesl_scope_meanings.specs.Scopes.{Key, free, same_key}
-use Rattle.wesl_scope_clash.specs.Canonical.{index_in, canonical_from}
+use Rattle.wesl_scope_clash.specs.Canonical.{index_in, with_key, canonical_from}
 use Rattle.wesl_scope_meanings.specs.Keys.{key_name}
-use Rattle.wesl_scope_clash.specs.Numbering.{with_key, distinct_from}
+use Rattle.wesl_scope_clash.specs.Numbering.{distinct_from}
 use Rattle.wesl_scope_meanings.proofs.Entries.{keys_decide, one_test}
 
 -- where a key stands among those that have a number

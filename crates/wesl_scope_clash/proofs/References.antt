@@ -10,7 +10,7 @@ use Rattle.wesl_scope_open.specs.Open.{Open, stepped, read_in}
 use Rattle.wesl_scope_open.specs.Named.{event_as}
 use Rattle.wesl_scope_open.specs.Matched.{AreMetBelow}
 use Rattle.wesl_scope_open.proofs.Runs.{AllWithin, read_at, or_again, or_none}
-use Rattle.wesl_scope_clash.specs.Judging.{Row, Judging, seen_here, right_of, outside_with, taken_back, name_at, meeting, judging, judged}
+use Rattle.wesl_scope_clash.specs.Judging.{Row, Judging, seen_here, right_of, outside_with, visible_again, name_at, meeting, judging, judged}
 use Rattle.wesl_scope_clash.proofs.Marked.{yes, mark, alike_to, other_than}
 use Rattle.wesl_scope_clash.proofs.Walked.{is_there, Knows, Tests, knows_next, judged_by, seen_right, seen_outside, outside_marked}
 use Rattle.wesl_scope_clash.proofs.Along.{Lasts, lasts, sketches, sketch, Fits, fits_next}
@@ -132,7 +132,7 @@ module _ (names : List Text) (alike : List ℕ) (wide : ℕ) (tests : (m : ℕ) 
   judges_met s d S (reference (Some y)) here i o os hi fits k role name looks j = judges_calm s.right s.outside d o os role j
   judges_met s d S word here i o os hi fits k role name looks j = judges_calm s.right s.outside d o os role j
 
-  judges_back : (s d : Judging) (rs : List Row) (os : List (Occurrence ℕ)) → Judges (taken_back rs s).right (taken_back rs s).outside d os → Judges s.right s.outside d os
+  judges_back : (s d : Judging) (rs : List Row) (os : List (Occurrence ℕ)) → Judges (visible_again rs s).right (visible_again rs s).outside d os → Judges s.right s.outside d os
   judges_back s d [] os j = j
   judges_back s d (r ∷ rs) os j = j
 

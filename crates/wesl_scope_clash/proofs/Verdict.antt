@@ -22,7 +22,7 @@ use Rattle.wesl_scope_open.proofs.Matched.{events_below}
 use Rattle.wesl_scope_open.proofs.Whole.{unit_numbered, named_seen, named_within, named_outside, named_globals}
 use Rattle.wesl_scope_clash.specs.declared.agreed.Agreed.{Agreed}
 use Rattle.wesl_scope_clash.specs.Faithful.{is_global, binders_of}
-use Rattle.wesl_scope_clash.specs.Test.{is_one, are_apart, has_number, agree_on, reads_right, all_read_right}
+use Rattle.wesl_scope_clash.specs.Test.{shares_number, are_apart, has_number, agree_on, reads_right, all_read_right}
 use Rattle.wesl_scope_clash.specs.Judging.{is_on, agree_or, Judging, name_at, judged, apart_at, outside_at, all_below, begun}
 use Rattle.wesl_scope_clash.proofs.Marked.{yes, mark, passes, shown_marked, declares_so, declared_marked, first_as, equal, alike_to, other_than, first_of, outside_right, right_by, picks_right, module_leaves}
 use Rattle.wesl_scope_clash.proofs.Walked.{AreAlike, differs, is_there, Stands, Knows, Tests, judged_by}
@@ -305,7 +305,7 @@ module _ (names : List Text) (alike : List ℕ) (wide : ℕ) (spells : AreAlike 
         unnamed (o ∷ os) h = (h.0, unnamed os h.1)
 
     -- a global name is apart where no other number has it
-    one_is : (o : Occurrence ℕ) → is_global o ≡ is_module_name o.role → is_one names all o ≡ (if is_module_name o.role then not (list_any (declares_so (other_than names o.name)) all) else true)
+    one_is : (o : Occurrence ℕ) → is_global o ≡ is_module_name o.role → shares_number names all o ≡ (if is_module_name o.role then not (list_any (declares_so (other_than names o.name)) all) else true)
     one_is o e = ap₂ (λ g x. if g then x else true) e (module_leaves names all o.name all globals_are)
 
     pub apart_read : all_below n (apart_at alike done) ≡ are_apart names all
@@ -317,12 +317,12 @@ module _ (names : List Text) (alike : List ℕ) (wide : ℕ) (spells : AreAlike 
         to : all_below n (apart_at alike done) ≡ true → are_apart names all ≡ true
         to h =
             let ends = below_each n (apart_at alike done) h in
-            let one : (o : Occurrence ℕ) → (((t : ℕ → Bool) → declares_so t o ≡ true → list_any (declares_so t) all ≡ true) × ((o.name < n) × (is_global o ≡ is_module_name o.role))) → is_one names all o ≡ true =
+            let one : (o : Occurrence ℕ) → (((t : ℕ → Bool) → declares_so t o ≡ true → list_any (declares_so t) all ≡ true) × ((o.name < n) × (is_global o ≡ is_module_name o.role))) → shares_number names all o ≡ true =
             λ o k.
             one_is o k.1.1
             ∙ by o (is_module_name o.role) refl k.0 (sym (apart_is o.name k.1.0) ∙ ends o.name k.1.0) in
-            each_all (is_one names all) all
-            (every_so _ (λ o. is_one names all o ≡ true) one all (every_both _ _ all (each_any declares_so all) (every_both _ _ all (all_named n unit named) globals_are)))
+            each_all (shares_number names all) all
+            (every_so _ (λ o. shares_number names all o ≡ true) one all (every_both _ _ all (each_any declares_so all) (every_both _ _ all (all_named n unit named) globals_are)))
           where
             by : (o : Occurrence ℕ) (g : Bool) → is_module_name o.role ≡ g → ((t : ℕ → Bool) → declares_so t o ≡ true → list_any (declares_so t) all ≡ true)
                 → (if list_any (declares_so (λ i. i == o.name)) all then (if list_any (declares_so (alike_to names o.name)) all then not (list_any (declares_so (other_than names o.name)) all) else true) else true) ≡ true
@@ -335,10 +335,10 @@ module _ (names : List Text) (alike : List ℕ) (wide : ℕ) (spells : AreAlike 
 
         from : are_apart names all ≡ true → all_below n (apart_at alike done) ≡ true
         from h =
-            let ones : Every (λ o. (is_one names all o ≡ true) × (is_global o ≡ is_module_name o.role)) all = every_both _ _ all (all_each (is_one names all) all h) globals_are in
+            let ones : Every (λ o. (shares_number names all o ≡ true) × (is_global o ≡ is_module_name o.role)) all = every_both _ _ all (all_each (shares_number names all) all h) globals_are in
             each_below n (apart_at alike done) (λ m l. apart_is m l ∙ at m (list_any (declares_so (λ i. i == m)) all) (list_any (declares_so (alike_to names m)) all) refl ones)
           where
-            leaves : (o : Occurrence ℕ) (m : ℕ) → is_one names all o ≡ true → is_global o ≡ is_module_name o.role → declares_so (λ i. i == m) o ≡ true → not (list_any (declares_so (other_than names m)) all) ≡ true
+            leaves : (o : Occurrence ℕ) (m : ℕ) → shares_number names all o ≡ true → is_global o ≡ is_module_name o.role → declares_so (λ i. i == m) o ≡ true → not (list_any (declares_so (other_than names m)) all) ≡ true
             leaves o m f g e =
                 let same : o.name ≡ m = (Decides-eqb o.name m).0 (and_second (is_module_name o.role) (o.name == m) e) in
                 ap (λ i. not (list_any (declares_so (other_than names i)) all)) (sym same)
@@ -348,7 +348,7 @@ module _ (names : List Text) (alike : List ℕ) (wide : ℕ) (spells : AreAlike 
             either true z e = e
             either false z e = refl
 
-            at : (m : ℕ) (b y : Bool) → list_any (declares_so (λ i. i == m)) all ≡ b → Every (λ o. (is_one names all o ≡ true) × (is_global o ≡ is_module_name o.role)) all
+            at : (m : ℕ) (b y : Bool) → list_any (declares_so (λ i. i == m)) all ≡ b → Every (λ o. (shares_number names all o ≡ true) × (is_global o ≡ is_module_name o.role)) all
                 → (if b then (if y then not (list_any (declares_so (other_than names m)) all) else true) else true) ≡ true
             at m false y e ones = refl
             at m true y e ones =

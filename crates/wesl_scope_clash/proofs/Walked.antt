@@ -8,14 +8,14 @@ use Rattle.wesl_tree_syntax.specs.Unit.{name_in}
 use Rattle.wesl_scope_occurrences.specs.Occurrences.{Standing, module_name, parameter, local, reference, word}
 use Rattle.wesl_scope_occurrences.specs.Walk.{Here}
 use Rattle.wesl_scope_occurrences.specs.Events.{Event, begins, meets, opens, closes, ends}
-use Rattle.wesl_scope_open.specs.Open.{Readings, Open, stepped, taken_back as open_back, declaring, with_visible}
+use Rattle.wesl_scope_open.specs.Open.{Readings, Open, stepped, taken_back, declaring, with_visible}
 use Rattle.wesl_scope_open.specs.Named.{event_as}
 use Rattle.wesl_scope_open.specs.Matched.{IsMetSo}
 use Rattle.wesl_scope_open.proofs.Runs.{DeclaresWithin, ReadWithin}
 use Rattle.wesl_scope_clash.specs.declared.agreed.Agreed.{Agreed}
 use Rattle.wesl_scope_clash.specs.declared.agreed.Agreed.TheVariants as made
 use Rattle.wesl_scope_clash.specs.declared.agreed.Visible.{Visible}
-use Rattle.wesl_scope_clash.specs.Judging.{is_on, with_number, agreed_in, visible_with, Row, Judging, right_of, outside_with, taken_back, name_at, declared, meeting, judging}
+use Rattle.wesl_scope_clash.specs.Judging.{is_on, with_number, agreed_in, visible_with, Row, Judging, right_of, outside_with, visible_again, name_at, declared, meeting, judging}
 use Rattle.wesl_scope_clash.proofs.Marked.{yes, mark, marked_test, is_at, equal, not_at}
 
 -- ---- numbers on which binders agree
@@ -138,7 +138,7 @@ module _ (alike : List ℕ) (wide count : ℕ) where
     knows_met s u v (reference (Some y)) here i hi within k = record { now = k.now; outer = k.outer }
     knows_met s u v word here i hi within k = record { now = k.now; outer = k.outer }
 
-    knows_closed : (s : Judging) (u v : Open) (rs : List Row) (us vs : List Readings) → AllStandIn m rs us vs → Knows m s u v → Knows m (taken_back rs s) (open_back us u) (open_back vs v)
+    knows_closed : (s : Judging) (u v : Open) (rs : List Row) (us vs : List Readings) → AllStandIn m rs us vs → Knows m s u v → Knows m (visible_again rs s) (taken_back us u) (taken_back vs v)
     knows_closed s u v [] [] [] a k = k
     knows_closed s u v (r ∷ rs) (x ∷ us) (y ∷ vs) a k = record { now = a.0; outer = a.1 }
     knows_closed s u v [] (x ∷ us) vs a k = absurd a

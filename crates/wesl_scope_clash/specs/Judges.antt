@@ -8,12 +8,12 @@ use Rattle.wesl_scope_open.specs.Table.{row, outer_rows}
 use Rattle.wesl_scope_open.specs.Matched.{AreMatched}
 use Rattle.wesl_scope_open.proofs.Matched.{matched_first}
 use Rattle.wesl_scope_clash.specs.declared.agreed.Visible.{Visible}
-use Rattle.wesl_scope_clash.specs.Judging.{Row, Judging, seen_here, taken_back, name_at, meeting, judging, judged, apart_at, outside_at, all_below}
+use Rattle.wesl_scope_clash.specs.Judging.{Row, Judging, seen_here, visible_again, name_at, meeting, judging, judged, apart_at, outside_at, all_below}
 use Rattle.wesl_scope_clash.specs.declared.judge.Judge.{Judge}
 
 -- memory was not wanting
-abbrev pub IsKept : Judge → Type 0
-IsKept j = j.visible.is_refused ≡ false
+abbrev pub HasMemory : Judge → Type 0
+HasMemory j = j.visible.is_refused ≡ false
 
 -- what it knows
 abbrev pub known : Judge → Judging
@@ -42,15 +42,15 @@ says_outside j = all_below (length j.alike.items) (outside_at j.alike.items (kno
 
 -- it knows this now, unless memory was wanting
 pub record Becomes (old new : Judge) (now : Judging) : Type 0 where
-  pub noted : IsKept new → IsKept old
+  pub noted : HasMemory new → HasMemory old
   pub alike : new.alike ≡ old.alike
-  pub known_now : IsKept new → known new ≡ now
+  pub known_now : HasMemory new → known new ≡ now
 
 -- what these events make of it
 pub record Follows (es : List Event) (old new : Judge) : Type 0 where
-  pub noted : IsKept new → IsKept old
+  pub noted : HasMemory new → HasMemory old
   pub alike : new.alike ≡ old.alike
-  pub known_now : IsKept new → AreMatched (length (outer_rows old.visible)) es → known new ≡ judged old.alike.items (known old) es
+  pub known_now : HasMemory new → AreMatched (length (outer_rows old.visible)) es → known new ≡ judged old.alike.items (known old) es
 
 -- ---- laws
 judged_both : (alike : List ℕ) (s : Judging) (es fs : List Event) → judged alike s (es ++ fs) ≡ judged alike (judged alike s es) fs
@@ -70,9 +70,9 @@ matched_judged alike [] fs s h = h
 matched_judged alike (begins ∷ es) fs s h = matched_judged alike es fs s h
 matched_judged alike (meets here r i ∷ es) fs s h = matched_judged alike es fs (meeting alike r here i s) (subst (λ os. AreMatched (length os) (es ++ fs)) (sym (still_open alike s r here i)) h)
 matched_judged alike (opens ∷ es) fs s h = matched_judged alike es fs (judging alike s opens) h
-matched_judged alike (closes ∷ es) fs s h = matched_judged alike es fs (taken_back s.outer s) (by s.outer h)
+matched_judged alike (closes ∷ es) fs s h = matched_judged alike es fs (visible_again s.outer s) (by s.outer h)
   where
-    by : (rs : List Row) → AreMatched (length rs) (closes ∷ (es ++ fs)) → AreMatched (length (taken_back rs s).outer) (es ++ fs)
+    by : (rs : List Row) → AreMatched (length rs) (closes ∷ (es ++ fs)) → AreMatched (length (visible_again rs s).outer) (es ++ fs)
     by [] g = absurd g
     by (r ∷ rs) g = g
 matched_judged alike (ends here i ∷ es) fs s h = matched_judged alike es fs (judging alike s (ends here i)) h

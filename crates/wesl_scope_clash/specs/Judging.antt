@@ -72,9 +72,9 @@ outside_with (Some v) i marks = marks
 outside_with None i marks = set marks i true
 
 -- names read again what they read where the innermost open block was opened; where none is open, nothing changes
-abbrev pub taken_back : List Row → Judging → Judging
-taken_back [] s = s
-taken_back (r ∷ rs) s = record s { visible = r; outer = rs }
+abbrev pub visible_again : List Row → Judging → Judging
+visible_again [] s = s
+visible_again (r ∷ rs) s = record s { visible = r; outer = rs }
 
 -- where identifiers have these names, by their numbers
 module _ (alike : List ℕ) where
@@ -109,7 +109,7 @@ module _ (alike : List ℕ) where
   judging s begins = s
   judging s (meets here r i) = meeting r here i s
   judging s opens = record s { outer = s.visible ∷ s.outer }
-  judging s closes = taken_back s.outer s
+  judging s closes = visible_again s.outer s
   judging s (ends here i) = record s { visible = declared here.block i s.visible }
 
   -- what it knows after these events, one after the other

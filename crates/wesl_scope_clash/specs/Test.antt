@@ -10,13 +10,13 @@ use Rattle.wesl_scope_clash.specs.Faithful.{is_global, binders_of}
 abbrev pub is_named : List Text → Text → Occurrence ℕ → Bool
 is_named names n o = is_global o && bytes_eq (name_in names o.name) n
 
--- a binder of the module's block has the number of each that is spelled alike
-abbrev pub is_one : List Text → List (Occurrence ℕ) → Occurrence ℕ → Bool
-is_one names all a = if is_global a then list_all (λ b. if is_named names (name_in names a.name) b then b.name == a.name else true) all else true
+-- whether a binder of the module's block has the number of each that is spelled alike; all other identifiers pass
+abbrev pub shares_number : List Text → List (Occurrence ℕ) → Occurrence ℕ → Bool
+shares_number names all a = if is_global a then list_all (λ b. if is_named names (name_in names a.name) b then b.name == a.name else true) all else true
 
 -- whether all binders of the module's block that are spelled alike have one number
 abbrev pub are_apart : List Text → List (Occurrence ℕ) → Bool
-are_apart names all = list_all (is_one names all) all
+are_apart names all = list_all (shares_number names all) all
 
 -- whether an identifier is a binder with the number m
 abbrev pub has_number : {B : Type 0} → ℕ → OccurrenceIn ℕ B → Bool

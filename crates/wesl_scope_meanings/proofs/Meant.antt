@@ -22,7 +22,7 @@ use Rattle.wesl_scope_open.proofs.Runs.{Every}
 use Rattle.wesl_scope_open.proofs.Told.{back, keys_back}
 use Rattle.wesl_scope_meanings.specs.Sensed.{Sensed, number_in, unsensed, sensed}
 use Rattle.wesl_scope_meanings.specs.Senses.{sense_view, keys_in}
-use Rattle.wesl_scope_meanings.specs.Reads.{IsKept, Shows, Reads}
+use Rattle.wesl_scope_meanings.specs.Reads.{HasMemory, Shows, Reads}
 use Rattle.wesl_scope_meanings.specs.Known.{is_known}
 use Rattle.wesl_scope_meanings.specs.Starts.{IsUnread}
 use Rattle.wesl_scope_meanings.specs.Spellings.{AreSpellings, HasSpellings}
@@ -34,7 +34,7 @@ use Rattle.wesl_scope_meanings.proofs.Spelling.{spelled_below, spelled_so}
 use Rattle.wesl_scope_meanings.proofs.Walked.{AllBelow, more, senses_more, more_below, keys_more, known_by, declared_so}
 use Rattle.wesl_scope_meanings.proofs.Within.{all_of, keys_within, keys_seen, told_by_way, within_outer}
 
-module _ (v : UnitView) (start reader : Reader) (unread : IsUnread v.names start) (reads : Reads (events (trees_of v)) start reader) (kept : IsKept reader) (named : forest_below (length v.names) (forest_of_unit (trees_of v)) ≡ true) where
+module _ (v : UnitView) (start reader : Reader) (unread : IsUnread v.names start) (reads : Reads (events (trees_of v)) start reader) (kept : HasMemory reader) (named : forest_below (length v.names) (forest_of_unit (trees_of v)) ≡ true) where
   abbrev pub met : List Event
   met = events (trees_of v)
 
@@ -108,7 +108,7 @@ pub meant : WaysLeadOutwards → SpellingKeepsOccurrences → EventsAreOccurrenc
     → AreNested outer → All (λ o. o.block < length outer) items → map (told (way outer)) (map occurrence_view items) ≡ occurrences (trees_of v) → paths ≡ paths_met (events (trees_of v))
     → n2 ≡ v.names → map flat ks ≡ keys_in (is_known reader) n2 paths (map sense_view reader.senses.items) → Meant v outer ks
 meant ways spelling collects v outer items start reader paths ks n1 n2 law e1 unread reads k1 k2 named ns blocks found p e2 e =
-    let kept : IsKept reader = record { senses = k1; binders = k2 } in
+    let kept : HasMemory reader = record { senses = k1; binders = k2 } in
     let first : IsUnread v.names start = subst (λ x. IsUnread x start) e1 unread in
     let flat_are : map flat ks ≡ map by_number (keys (occurrences (spelled v))) =
     flat_keys v start reader first reads kept named spelling collects paths ks p (e ∙ ap (λ x. keys_in (is_known reader) x paths (map sense_view reader.senses.items)) e2) ∙ law in
@@ -124,7 +124,7 @@ pub spelled_still : (v : UnitView) (start reader : Reader) (n1 : List Text) (cou
     → forest_below (length v.names) (forest_of_unit (trees_of v)) ≡ true → count ≡ length reader.declared.items → HasSpellings v.names reader.alike.items count
 spelled_still v start reader n1 count e1 unread reads k1 k2 named counted =
     let first : IsUnread v.names start = subst (λ x. IsUnread x start) e1 unread in
-    let kept : IsKept reader = record { senses = k1; binders = k2 } in
+    let kept : HasMemory reader = record { senses = k1; binders = k2 } in
     record {
       texts = first.texts;
       counted = counted ∙ (shows v start reader first reads kept named).as_wide;

@@ -7,13 +7,12 @@ use Rattle.wesl_tree_names.specs.Path.{Text, Path}
 use Rattle.wesl_tree_syntax.specs.Tree.{forest_below, kind, declarations}
 use Rattle.wesl_tree_syntax.specs.Unit.{UnitView, forest_of_unit, trees_of, spelled, name_in}
 use Rattle.wesl_scope_occurrences.specs.Occurrences.{Block, Standing, module_name, parameter, local, reference, word, Occurrence, occurrences}
-use Rattle.wesl_scope_occurrences.specs.Walk.{Here, Found, ended_as, ended_at}
+use Rattle.wesl_scope_occurrences.specs.Walk.{Here, Found, ended_as, ended_at, outermost, State, walk, all_of, start}
 use Rattle.wesl_scope_occurrences.specs.Events.{Event, begins, meets, opens, closes, ends, events, paths_met}
 use Rattle.wesl_scope_occurrences.specs.Collected.{Collected, nothing, last_ended, collecting, collected}
 use Rattle.wesl_scope_occurrences.specs.Laws.{WaysLeadOutwards, renamed}
 use Rattle.wesl_scope_occurrences.specs.Outer.{outers}
 use Rattle.wesl_scope_occurrences.specs.Pieces.{starts}
-use Rattle.wesl_scope_occurrences.specs.Walk.{State, walk, all_of, outermost, start}
 use Rattle.wesl_scope_occurrences.specs.Ways.{AreNested, way, told}
 use Rattle.wesl_scope_occurrences.proofs.Collecting.{collected_occurrences, last_length}
 use Rattle.wesl_scope_occurrences.proofs.Starting.{collected_starts}
@@ -28,7 +27,7 @@ use Rattle.wesl_scope_open.proofs.Told.{back, keys_back}
 use Rattle.wesl_scope_meanings.specs.Sensed.{Sense, declared_in, of_block, of_module, of_none, by_path, number_in, path_total, reading, sense_by, sense_met, Sensed, unsensed, sensing, sensed}
 use Rattle.wesl_scope_meanings.specs.Senses.{sense_view, IsSenseBelow, key_in, keys_in, manner_as, manner_of, manner_in}
 use Rattle.wesl_scope_meanings.specs.Read.{name_read, told_by, is_declared_in}
-use Rattle.wesl_scope_meanings.specs.Reads.{IsKept, Reads}
+use Rattle.wesl_scope_meanings.specs.Reads.{HasMemory, Reads}
 use Rattle.wesl_scope_meanings.specs.Starts.{IsUnread}
 use Rattle.wesl_scope_meanings.specs.declared.reader.Reader.{Reader}
 use Rattle.wesl_scope_meanings.proofs.Meant.{below, shows, senses_are}
@@ -144,7 +143,7 @@ all_below names n (s ∷ ss) h = by (all_below names n ss h.1)
     by rest (suc i) d l = rest i d (omega (arith, l))
 
 -- ---- a module that was walked
-module _ (v : UnitView) (first reader : Reader) (unread : IsUnread v.names first) (reads : Reads (events (trees_of v)) first reader) (kept : IsKept reader) (named : forest_below (length v.names) (forest_of_unit (trees_of v)) ≡ true) where
+module _ (v : UnitView) (first reader : Reader) (unread : IsUnread v.names first) (reads : Reads (events (trees_of v)) first reader) (kept : HasMemory reader) (named : forest_below (length v.names) (forest_of_unit (trees_of v)) ≡ true) where
   abbrev told_of : List Event
   told_of = events (trees_of v)
 

@@ -17,7 +17,7 @@ use Rattle.wesl_scope_open.proofs.Named.{at_opening, at_end, at_parameter, at_cl
 use Rattle.wesl_scope_meanings.specs.Sensed.{Sensed, path_count, path_total, unsensed, sense_by, with_known}
 use Rattle.wesl_scope_meanings.specs.Sensed.{Sense as SenseMet}
 use Rattle.wesl_scope_meanings.specs.Senses.{sense_view}
-use Rattle.wesl_scope_meanings.specs.Reads.{IsKept, Shows, Reads, MakesVisible, MakesKnown, NotesName}
+use Rattle.wesl_scope_meanings.specs.Reads.{HasMemory, Shows, Reads, MakesVisible, MakesKnown, NotesName}
 use Rattle.wesl_scope_meanings.specs.declared.reader.Reader.{Reader}
 use Rattle.wesl_scope_meanings.specs.declared.sense.Sense.{Sense}
 use Rattle.wesl_scope_meanings.proofs.Spelling.{spelled_below, spelled_so}
@@ -29,7 +29,7 @@ with_binders t s = record { binders = t; known = s.known; senses = s.senses; sta
 
 -- where the binders alone changed
 module _ (old new : Reader) (same_alike : new.alike ≡ old.alike) (same_declared : new.declared ≡ old.declared) (same_senses : new.senses ≡ old.senses) (same_paths : new.paths ≡ old.paths) (same_starts : new.starts ≡ old.starts) (same_refused : new.is_refused ≡ old.is_refused) where
-  kept_as : (new.binders.is_refused ≡ false → old.binders.is_refused ≡ false) → IsKept new → IsKept old
+  kept_as : (new.binders.is_refused ≡ false → old.binders.is_refused ≡ false) → HasMemory new → HasMemory old
   kept_as n k = record { senses = sym same_refused ∙ k.senses; binders = n k.binders }
 
   shows_as : (texts : List Text) (s : Sensed) (t : Open) → Shows texts old s → StandsOpen texts (row new.binders) (outer_rows new.binders) t → Shows texts new (with_binders t s)
@@ -56,7 +56,7 @@ module _ (old new : Reader) (same_alike : new.alike ≡ old.alike) (same_declare
     shown = λ k names texts spelled below s m is. shows_as texts s (stepped s.binders closes) is (by texts s k is s.binders.outer refl m);
   }
     where
-      by : (texts : List Text) (s : Sensed) → IsKept new → Shows texts old s → (os : List Readings) → s.binders.outer ≡ os → AreMatched {I = ℕ} (length os) (closes ∷ []) → StandsOpen texts (row new.binders) (outer_rows new.binders) (stepped s.binders closes)
+      by : (texts : List Text) (s : Sensed) → HasMemory new → Shows texts old s → (os : List Readings) → s.binders.outer ≡ os → AreMatched {I = ℕ} (length os) (closes ∷ []) → StandsOpen texts (row new.binders) (outer_rows new.binders) (stepped s.binders closes)
       by texts s k is [] e m = absurd m
       by texts s k is (v ∷ vs) e m = at_closing texts old.binders new.binders s.binders k.binders is.binders v vs e o
 

@@ -17,7 +17,7 @@ use Rattle.wesl_scope_meanings.specs.Spellings.{AreSpellings}
 use Rattle.wesl_scope_meanings.specs.declared.reader.Reader.{Reader}
 
 -- memory was not wanting
-pub record IsKept (r : Reader) : Type 0 where
+pub record HasMemory (r : Reader) : Type 0 where
   pub senses : r.is_refused ≡ false
   pub binders : r.binders.is_refused ≡ false
 
@@ -32,9 +32,9 @@ pub record Shows (texts : List Text) (r : Reader) (s : Sensed) : Type 0 where
 
 -- what these events make of it, unless memory was wanting
 pub record Reads (es : List Event) (old new : Reader) : Type 0 where
-  pub noted : IsKept new → IsKept old
+  pub noted : HasMemory new → HasMemory old
   pub alike : new.alike ≡ old.alike
-  pub shown : IsKept new → (names texts : List Text) → AreSpellings names texts old.alike.items → AreMetBelow (length names) es
+  pub shown : HasMemory new → (names texts : List Text) → AreSpellings names texts old.alike.items → AreMetBelow (length names) es
       → (s : Sensed) → AreMatched (length s.binders.outer) es → Shows texts old s → Shows texts new (sensed names s es)
 
 -- a declaration of the name in the block is visible from now on, and nothing else changed
@@ -60,9 +60,9 @@ pub record MakesKnown (old new : Reader) (name : ℕ) : Type 0 where
 
 -- what the name declares that stands so is noted
 pub record NotesName (old new : Reader) (here : Here) (r : Standing) (name : ℕ) : Type 0 where
-  pub noted : IsKept new → IsKept old
+  pub noted : HasMemory new → HasMemory old
   pub alike : new.alike ≡ old.alike
-  pub shown : IsKept new → (texts : List Text) → AreDistinct texts → name < length texts → (s : Sensed) → Shows texts old s
+  pub shown : HasMemory new → (texts : List Text) → AreDistinct texts → name < length texts → (s : Sensed) → Shows texts old s
       → Shows texts new (record { binders = declaring r here.block (name_in texts name) s.binders; known = with_known r (name_in texts name) s.known; senses = s.senses; starts = s.starts })
 
 -- ---- laws

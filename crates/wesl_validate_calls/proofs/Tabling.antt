@@ -17,8 +17,9 @@ use Rattle.wesl_scope_strip.specs.Declarations.{lies_in, all, declared_in}
 use Rattle.wesl_scope_strip.specs.Marks.{mark_at}
 use Rattle.wesl_validate_rules.specs.Graphs.{Graph, edges_at, Leads, IsClosed}
 use Rattle.wesl_validate_rules.specs.Calls.{ShapeOf, alias_of, other, open_alias, function_with, struct_with, shape_in}
+use Rattle.wesl_validate_rules.specs.Known.{binds_here}
 use Rattle.wesl_validate_rules.specs.Valid.{shape_of, Declares}
-use Rattle.wesl_validate_calls.specs.Tables.{Tables, AreTables, shape_at, target_of, target_at, one_or_none, declaration_named, alias_named, edges_here, edges_of, binds_here}
+use Rattle.wesl_validate_calls.specs.Tables.{Tables, AreTables, shape_at, target_of, target_at, one_or_none, declaration_named, alias_target, edges_here, edges_of}
 use Rattle.wesl_validate_calls.proofs.Members.{contains_none, contains_here, contains_cases, to_mapped, from_mapped, to_filtered, from_filtered, from_joined, to_joined}
 
 -- edges are made by identifiers of that number
@@ -113,7 +114,7 @@ module _ (u : UnitView) (w : ℕ → Block) (os : List Found) (all_is : map (tol
     target_to : (s : ShapeOf ℕ) (b : ℕ) → s ≡ alias_of b → target_of s ≡ Some b
     target_to s b e = ap target_of e
 
-    pub aliases : (g : Graph) → ((m : ℕ) → edges_at g m ≡ edges_of (alias_named shapes) m os) → (a b : ℕ) → Leads g a b ↔ ((j : ℕ) × Declares u j a × (shape_of u j ≡ alias_of b))
+    pub aliases : (g : Graph) → ((m : ℕ) → edges_at g m ≡ edges_of (alias_target shapes) m os) → (a b : ℕ) → Leads g a b ↔ ((j : ℕ) × Declares u j a × (shape_of u j ≡ alias_of b))
     aliases g is a b = (to, from)
       where
         at : (o : Found) → Contains os o → o.name ≡ a → (d : Option ℕ) → declaration_named o ≡ d → target_at shapes d ≡ Some b → (j : ℕ) × Declares u j a × (shape_of u j ≡ alias_of b)
@@ -121,13 +122,13 @@ module _ (u : UnitView) (w : ℕ → Block) (os : List Found) (all_is : map (tol
         at o there name (Some j) q e = (j, declares j a o there name q, sym (shaped j) ∙ target_from (shape_at shapes j) b e)
 
         to : Leads g a b → (j : ℕ) × Declares u j a × (shape_of u j ≡ alias_of b)
-        to l = let s = from_edges (alias_named shapes) a b os (subst (λ xs. Contains xs b) (is a) l) in at s.0 s.1.0 s.1.1.0 (declaration_named s.0) refl s.1.1.1
+        to l = let s = from_edges (alias_target shapes) a b os (subst (λ xs. Contains xs b) (is a) l) in at s.0 s.1.0 s.1.1.0 (declaration_named s.0) refl s.1.1.1
 
         from : (j : ℕ) × Declares u j a × (shape_of u j ≡ alias_of b) → Leads g a b
         from (j, d, e) =
             let s = declared j a d in
-            let target : alias_named shapes s.0 ≡ Some b = ap (target_at shapes) s.1.2 ∙ target_to (shape_at shapes j) b (shaped j ∙ e) in
-            subst (λ xs. Contains xs b) (sym (is a)) (to_edges (alias_named shapes) a b os s.0 s.1.0 (s.1.1, target))
+            let target : alias_target shapes s.0 ≡ Some b = ap (target_at shapes) s.1.2 ∙ target_to (shape_at shapes j) b (shaped j ∙ e) in
+            subst (λ xs. Contains xs b) (sym (is a)) (to_edges (alias_target shapes) a b os s.0 s.1.0 (s.1.1, target))
 
 edges_told : (w : ℕ → Block) (f : Occurrence ℕ → Option ℕ) (g : Found → Option ℕ) → ((o : Found) → f (told w o) ≡ g o) → (m : ℕ) (os : List Found) → edges_of f m (map (told w) os) ≡ edges_of g m os
 edges_told w f g same m [] = refl
@@ -148,7 +149,7 @@ module _ (u : UnitView) (w : ℕ → Block) (os : List Found) (all_is : map (tol
 
   pub are_tables : (t : Tables) → t.shapes ≡ map (λ (d : Spanned GlobalDeclaration). shape_in (before (global_view d.node) end)) v.items
       → ((m : ℕ) → edges_at t.declarers m ≡ edges_of declaration_named m os)
-      → ((m : ℕ) → edges_at t.aliases m ≡ edges_of (alias_named t.shapes) m os)
+      → ((m : ℕ) → edges_at t.aliases m ≡ edges_of (alias_target t.shapes) m os)
       → IsClosed t.aliases
       → ((m : ℕ) → mark_at t.bound m ≡ list_any (binds_here m) os)
       → AreTables u t

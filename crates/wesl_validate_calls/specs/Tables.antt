@@ -1,7 +1,7 @@
 -- What a module is to its calls, as tables tell it.
-use Rattle.std.specs.Prelude.{◌≡◌, ◌↔◌, ℕ, Bool, ◌&&◌, ◌==◌, Option, Some, None, List, [], ◌∷◌, flat_map, get_or, if◌then◌else◌}
+use Rattle.std.specs.Prelude.{◌≡◌, ◌↔◌, ℕ, Bool, ◌==◌, Option, Some, None, List, [], ◌∷◌, flat_map, get_or, if◌then◌else◌}
 use Rattle.wesl_tree_syntax.specs.Unit.{UnitView}
-use Rattle.wesl_scope_occurrences.specs.Occurrences.{OccurrenceIn, is_module_name, is_binder}
+use Rattle.wesl_scope_occurrences.specs.Occurrences.{OccurrenceIn, is_module_name}
 use Rattle.wesl_scope_strip.specs.Declarations.{all}
 use Rattle.wesl_scope_strip.specs.Marks.{mark_at}
 use Rattle.wesl_validate_rules.specs.Graphs.{Graph, edges_at, Leads, IsClosed}
@@ -44,8 +44,8 @@ module _ {B : Type 0} where
   declaration_named o = if is_module_name o.role then o.declaration else None
 
   -- the name for which an identifier stands, if it is the name of an alias of a plain name
-  abbrev pub alias_named : List (ShapeOf ℕ) → OccurrenceIn ℕ B → Option ℕ
-  alias_named shapes o = target_at shapes (declaration_named o)
+  abbrev pub alias_target : List (ShapeOf ℕ) → OccurrenceIn ℕ B → Option ℕ
+  alias_target shapes o = target_at shapes (declaration_named o)
 
   -- the edge from the number m that an identifier makes
   abbrev pub edges_here : (OccurrenceIn ℕ B → Option ℕ) → ℕ → OccurrenceIn ℕ B → List ℕ
@@ -54,10 +54,6 @@ module _ {B : Type 0} where
   -- the edges from the number m that these identifiers make, in their order
   abbrev pub edges_of : (OccurrenceIn ℕ B → Option ℕ) → ℕ → List (OccurrenceIn ℕ B) → List ℕ
   edges_of f m os = flat_map (edges_here f m) os
-
-  -- whether an identifier is a binder of the number m
-  abbrev pub binds_here : ℕ → OccurrenceIn ℕ B → Bool
-  binds_here m o = is_binder o.role && o.name == m
 
 -- the declarations of a number, in document order
 abbrev pub declarers : UnitView → ℕ → List ℕ

@@ -3,7 +3,7 @@ ghost use Rattle.std.specs.Prelude.{◌≡◌, ◌<◌, ◌||◌, ◌==◌, ℕ,
 ghost use Rattle.std.specs.List.{list_any};
 ghost use Rattle.wesl_scope_occurrences.specs.Views.{occurrence_view};
 ghost use Rattle.wesl_scope_strip.specs.Marks.{mark_at};
-ghost use Rattle.wesl_validate_calls.specs.Tables.{binds_here};
+ghost use Rattle.wesl_validate_rules.specs.Known.{binds_here};
 
 use std::alloc::{AllocError, Global};
 use wesl_scope_occurrences::{Identifiers, Occurrence};

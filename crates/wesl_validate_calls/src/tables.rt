@@ -5,7 +5,7 @@ ghost use Rattle.wesl_scope_occurrences.specs.Views.{occurrence_view};
 ghost use Rattle.wesl_scope_strip.specs.Declarations.{all};
 ghost use Rattle.wesl_validate_rules.specs.Graphs.{graph_view, edges_at, IsClosed};
 ghost use Rattle.wesl_tree.specs.Translation.{unit_view};
-ghost use Rattle.wesl_validate_calls.specs.Tables.{AreTables, one_or_none, declaration_named, target_of, alias_named, edges_of};
+ghost use Rattle.wesl_validate_calls.specs.Tables.{AreTables, one_or_none, declaration_named, target_of, alias_target, edges_of};
 ghost use Rattle.wesl_validate_calls.specs.Views.{shape_view, tables_view};
 
 use crate::numbers::bound_numbers;
@@ -49,8 +49,8 @@ fn target_of(shape: Shape) -> Option<usize>
 }
 
 /// The same, of the declaration of which it is the name.
-fn alias_named(shapes: &Vec<Shape>, occurrence: &Occurrence<'_>) -> Option<usize>
-    ensures { result ≡ alias_named (map shape_view shapes.now.items) (occurrence_view occurrence.now) }
+fn alias_target(shapes: &Vec<Shape>, occurrence: &Occurrence<'_>) -> Option<usize>
+    ensures { result ≡ alias_target (map shape_view shapes.now.items) (occurrence_view occurrence.now) }
 {
     match declaration_named(occurrence) {
         None => None,
@@ -92,12 +92,12 @@ fn aliases_of(
     shapes: &Vec<Shape>,
     found: &Identifiers<'_>,
 ) -> Result<Vec<Vec<usize>>, AllocError>
-    ensures edges { IfOk result (λ graph. (m : ℕ) → edges_at (graph_view graph.items) m ≡ edges_of (alias_named (map shape_view shapes.now.items)) m (map occurrence_view found.now.all.items)) }
+    ensures edges { IfOk result (λ graph. (m : ℕ) → edges_at (graph_view graph.items) m ≡ edges_of (alias_target (map shape_view shapes.now.items)) m (map occurrence_view found.now.all.items)) }
     ensures closed { IfOk result (λ graph. IsClosed (graph_view graph.items)) }
 {
     let mut aliases = Vec::new(alloc);
     for occurrence in &found.all {
-        let target = alias_named(shapes, occurrence);
+        let target = alias_target(shapes, occurrence);
         add_target(alloc, &mut aliases, occurrence.ident.0, target)?;
     }
     Ok(aliases)

@@ -21,7 +21,7 @@ use Rattle.wesl_validate_calls.specs.declared.misfit.Misfit.TheVariants as misfi
 use Rattle.wesl_validate_faults.specs.Calls.{misfit_told}
 use Rattle.wesl_validate_faults.specs.Findings.{Finding, undefined, miscounted, not_callable}
 use Rattle.wesl_validate_faults.specs.Gathered.{named_here, named_in, declared_among, name_by, undefined_here, misfit_here, finding_view, findings_view}
-use Rattle.wesl_validate_faults.specs.Listed.{declared, undefineds}
+use Rattle.wesl_validate_faults.specs.Listed.{module_numbers, undefineds}
 use Rattle.wesl_validate_faults.specs.declared.finding.Finding as code
 use Rattle.wesl_validate_faults.proofs.Collecting.{view_push}
 
@@ -59,7 +59,7 @@ module _ (u : UnitView) (w : ℕ → Block) (os : List Found) (all_is : map (tol
       ap (λ xs. map (λ (o : Occurrence ℕ). o.name) (filter (λ (o : Occurrence ℕ). is_module_name o.role && lies_in j o.declaration) xs)) (sym all_is)
       ∙ passing (told w) (λ (o : Occurrence ℕ). is_module_name o.role && lies_in j o.declaration) (λ (o : Occurrence ℕ). o.name) (names_here j) (λ (o : Found). o.name) (λ o. refl) os (λ o c. refl)
 
-  pub declared_is : declared u ≡ declared_among os
+  pub declared_is : module_numbers u ≡ declared_among os
   declared_is =
       ap (λ xs. map (λ (o : Occurrence ℕ). o.name) (filter (λ (o : Occurrence ℕ). is_module_name o.role) xs)) (sym all_is)
       ∙ passing (told w) (λ (o : Occurrence ℕ). is_module_name o.role) (λ (o : Occurrence ℕ). o.name) (λ (o : Found). is_module_name o.role) (λ (o : Found). o.name) (λ o. refl) os (λ o c. refl)

@@ -8,13 +8,13 @@ use Rattle.wesl_tree_names.specs.Path.{Text}
 use Rattle.wesl_tree_syntax.specs.Unit.{UnitView}
 use Rattle.wesl_scope_graph.specs.Graphs.{Graph, graph_view, edges_at, Leads, IsClosed, Reached, marked, onward}
 use Rattle.wesl_scope_graph.specs.Marks.{mark_at}
-use Rattle.wesl_validate_rules.specs.Graphs.{Path, edge, then, IsGrounded}
+use Rattle.wesl_validate_rules.specs.Graphs.{Path, edge, then, IsGrounded, IsRing}
 use Rattle.wesl_validate_rules.specs.Valid.{LeadsTo, Reaches, directly, onward as reaches_onward}
 use Rattle.wesl_validate_rules.proofs.Finding.{contains_here, contains_later, contains_cases, contains_none}
 use Rattle.wesl_validate_rules.proofs.Graphs.{no_ring}
 use Rattle.wesl_validate_faults.specs.Findings.{Finding}
-use Rattle.wesl_validate_faults.specs.Gathered.{closes, cycle_here, ClosesRing, AreRings, AddsRings}
-use Rattle.wesl_validate_faults.specs.Listed.{declared, IsFirst, LeadsBack, AreCycles, cycle_by}
+use Rattle.wesl_validate_faults.specs.Gathered.{closes, cycle_here, AreRings, AddsRings}
+use Rattle.wesl_validate_faults.specs.Listed.{module_numbers, IsFirst, ClosesCycle, AreCycles, cycle_by}
 
 -- ---- the first of a list
 module _ (P : ℕ → Type 0) (p : ℕ → Bool) (sound : (x : ℕ) → p x ≡ true → P x) (complete : (x : ℕ) → P x → p x ≡ true) where
@@ -111,19 +111,22 @@ module _ (g : Graph) where
 
   -- by marks as by paths
   module _ (closed : IsClosed g) (marks : List Bool) (node : ℕ) (all : node < length g → (a : ℕ) → (mark_at marks a ≡ true) ↔ ((node ≡ a) ⊎ Path g node a)) where
-    pub closes_sound : (x : ℕ) → closes g marks node x ≡ true → ClosesRing g node x
+    pub closes_sound : (x : ℕ) → closes g marks node x ≡ true → IsRing g node x
     closes_sound x e =
         let s = both (mark_at marks x) (list_any (λ t. t == node) (edges_at g x)) e in
         let l = either_edge (edges_at g x) node s.1 in
-        ((all (closed x node l) x).0 s.0, l)
+        record { leads_there = (all (closed x node l) x).0 s.0; leads_back = l }
 
-    pub closes_complete : (x : ℕ) → ClosesRing g node x → closes g marks node x ≡ true
-    closes_complete x (s, l) = and_true (mark_at marks x) (list_any (λ t. t == node) (edges_at g x)) ((all (closed x node l) x).1 s) (edge_is (edges_at g x) node l)
+    pub closes_complete : (x : ℕ) → IsRing g node x → closes g marks node x ≡ true
+    closes_complete x r = and_true (mark_at marks x) (list_any (λ t. t == node) (edges_at g x)) ((all (closed x node r.leads_back) x).1 r.leads_there) (edge_is (edges_at g x) node r.leads_back)
 
   -- where every path ends no node reaches itself
-  pub no_closing : ((a : ℕ) → IsGrounded g a) → (a last : ℕ) → ClosesRing g a last → ⊥
-  no_closing all a last (inl e, l) = no_ring g a (all a) (edge a a (subst (λ k. Leads g k a) (sym e) l))
-  no_closing all a last (inr p, l) = no_ring g a (all a) (longer a last a p l)
+  pub no_closing : ((a : ℕ) → IsGrounded g a) → (a last : ℕ) → IsRing g a last → ⊥
+  no_closing all a last r = by r.leads_there
+    where
+      by : (a ≡ last) ⊎ Path g a last → ⊥
+      by (inl e) = no_ring g a (all a) (edge a a (subst (λ k. Leads g k a) (sym e) r.leads_back))
+      by (inr p) = no_ring g a (all a) (longer a last a p r.leads_back)
 
 -- ---- one ring after the other
 module _ (names : List Text) (g : Graph) (ds : List ℕ) where
@@ -134,7 +137,7 @@ module _ (names : List Text) (g : Graph) (ds : List ℕ) where
   pub owes_all : (old : List Finding) (i : ℕ) → i ≡ 0 → Owes old old (drop i ds)
   owes_all old i e = ([], sym (append-nil old), λ gs h. subst (λ k. AreRings names g ds (drop k ds) gs) e h)
 
-  pub owes_next : (old now new : List Finding) (i a : ℕ) (last : Option ℕ) → i < length ds → a ≡ get_or ds i 0 → IsFirst (ClosesRing g a) ds last → new ≡ now ++ cycle_here names a last → Owes old now (drop i ds) → Owes old new (drop (i + 1) ds)
+  pub owes_next : (old now new : List Finding) (i a : ℕ) (last : Option ℕ) → i < length ds → a ≡ get_or ds i 0 → IsFirst (IsRing g a) ds last → new ≡ now ++ cycle_here names a last → Owes old now (drop i ds) → Owes old new (drop (i + 1) ds)
   owes_next old now new i a last l is first e (cs, so, rest) = (
     cs ++ cycle_here names a last,
     e ∙ (ap (λ fs. fs ++ cycle_here names a last) so ∙ append_assoc old cs (cycle_here names a last)),
@@ -156,35 +159,38 @@ module _ (u : UnitView) (names : List Text) (same : names ≡ u.names) (g : Grap
   chain_of a b (edge _ _ s) = directly a b ((steps a b).0 s)
   chain_of a b (then _ c _ s r) = reaches_onward a c b ((steps a c).0 s) (chain_of c b r)
 
-  back_of : (a x : ℕ) → ClosesRing g a x → LeadsBack u a x
-  back_of a x (inl e, l) = (inl e, (steps x a).0 l)
-  back_of a x (inr p, l) = (inr (chain_of a x p), (steps x a).0 l)
+  back_of : (a x : ℕ) → IsRing g a x → ClosesCycle u a x
+  back_of a x r = (by r.leads_there, (steps x a).0 r.leads_back)
+    where
+      by : (a ≡ x) ⊎ Path g a x → (a ≡ x) ⊎ Reaches u a x
+      by (inl e) = inl e
+      by (inr p) = inr (chain_of a x p)
 
-  ring_of : (a x : ℕ) → LeadsBack u a x → ClosesRing g a x
-  ring_of a x (inl e, l) = (inl e, (steps x a).1 l)
-  ring_of a x (inr r, l) = (inr (path_of a x r), (steps x a).1 l)
+  ring_of : (a x : ℕ) → ClosesCycle u a x → IsRing g a x
+  ring_of a x (inl e, l) = record { leads_there = inl e; leads_back = (steps x a).1 l }
+  ring_of a x (inr r, l) = record { leads_there = inr (path_of a x r); leads_back = (steps x a).1 l }
 
   said_as : (a : ℕ) (r : Option ℕ) → cycle_here names a r ≡ cycle_by u a r
   said_as a None = refl
   said_as a (Some x) = ap (λ ns. cycle_here ns a (Some x)) same
 
-  module _ (ds : List ℕ) (declares : declared u ≡ ds) where
+  module _ (ds : List ℕ) (declares : module_numbers u ≡ ds) where
     cycles_of : (others : List ℕ) (fs : List Finding) → AreRings names g ds others fs → AreCycles u others fs
     cycles_of [] fs e = e
     cycles_of (a ∷ others) fs (last, rest, first, r, e) = (
       last,
       rest,
-      subst (λ xs. IsFirst (LeadsBack u a) xs last) (sym declares) (same_first (ClosesRing g a) (LeadsBack u a) (back_of a) (ring_of a) ds last first),
+      subst (λ xs. IsFirst (ClosesCycle u a) xs last) (sym declares) (same_first (IsRing g a) (ClosesCycle u a) (back_of a) (ring_of a) ds last first),
       cycles_of others rest r,
       e ∙ ap (λ gs. gs ++ rest) (said_as a last),
     )
 
-    pub are_cycles : (fs : List Finding) → AreRings names g ds ds fs → AreCycles u (declared u) fs
+    pub are_cycles : (fs : List Finding) → AreRings names g ds ds fs → AreCycles u (module_numbers u) fs
     are_cycles fs r = subst (λ others. AreCycles u others fs) (sym declares) (cycles_of ds fs r)
 
   pub none_are_cycles : ((a : ℕ) → IsGrounded g a) → (others : List ℕ) → AreCycles u others []
   none_are_cycles all [] = refl
-  none_are_cycles all (a ∷ others) = (None, [], no_first (LeadsBack u a) (declared u) (λ x h. no_closing g all a x (ring_of a x h)), none_are_cycles all others, refl)
+  none_are_cycles all (a ∷ others) = (None, [], no_first (ClosesCycle u a) (module_numbers u) (λ x h. no_closing g all a x (ring_of a x h)), none_are_cycles all others, refl)
 
 pub counted : (rows : List (Vec ℕ Global)) → length (graph_view rows) ≡ length rows
 counted [] = refl

@@ -17,7 +17,7 @@ use Rattle.wesl_validate_rules.specs.Twice.{StandsTwice}
 use Rattle.wesl_validate_rules.specs.Valid.{spelling, is_undefined, Declares, LeadsTo, Reaches, directly, onward, IsValidWesl}
 use Rattle.wesl_validate_faults.specs.Findings.{Finding, undefined, duplicate, cycle, miscounted, not_callable, IsFound}
 use Rattle.wesl_validate_faults.specs.Laws.{IsCauseTold, ListsWhatStands, ListsEachCause, ListsEachOnce, IsOneList}
-use Rattle.wesl_validate_faults.specs.Listed.{each_once, repeated_after, IsFirst, declared, LeadsBack, AreCycles, cycle_by, duplicates, undefineds, AreFindings}
+use Rattle.wesl_validate_faults.specs.Listed.{each_once, repeated_after, IsFirst, module_numbers, ClosesCycle, AreCycles, cycle_by, duplicates, undefineds, AreFindings}
 use Rattle.wesl_validate_faults.proofs.Collecting.{of_once, once_apart, to_once}
 use Rattle.wesl_validate_faults.proofs.Repeated.{of_repeated, to_repeated}
 
@@ -50,19 +50,19 @@ module _ (P : ℕ → Type 0) where
 
 module _ (u : UnitView) where
   -- a declared number is one in document order
-  is_declared : (j m : ℕ) → Declares u j m → Contains (declared u) m
+  is_declared : (j m : ℕ) → Declares u j m → Contains (module_numbers u) m
   is_declared j m c =
       let s = from_mapped (λ (o : Occurrence ℕ). o.name) (filter (λ (o : Occurrence ℕ). is_module_name o.role && lies_in j o.declaration) (all u)) m c in
       let t = of_passing (λ (o : Occurrence ℕ). is_module_name o.role && lies_in j o.declaration) (all u) s.0 s.1.0 in
       let p = both (is_module_name s.0.role) (lies_in j s.0.declaration) t.1 in
-      subst (Contains (declared u)) s.1.1 (to_mapped (λ (o : Occurrence ℕ). o.name) (filter (λ (o : Occurrence ℕ). is_module_name o.role) (all u)) s.0 (to_passing (λ (o : Occurrence ℕ). is_module_name o.role) (all u) s.0 t.0 p.0))
+      subst (Contains (module_numbers u)) s.1.1 (to_mapped (λ (o : Occurrence ℕ). o.name) (filter (λ (o : Occurrence ℕ). is_module_name o.role) (all u)) s.0 (to_passing (λ (o : Occurrence ℕ). is_module_name o.role) (all u) s.0 t.0 p.0))
 
-  first_step : (a b : ℕ) → Reaches u a b → Contains (declared u) a
+  first_step : (a b : ℕ) → Reaches u a b → Contains (module_numbers u) a
   first_step a b (directly _ _ s) = is_declared s.0 a s.1
   first_step a b (onward _ c _ s r) = is_declared s.0 a s.1
 
-  leads_from : (a last : ℕ) → LeadsBack u a last → Contains (declared u) a
-  leads_from a last (inl e, s) = subst (Contains (declared u)) (sym e) (is_declared s.0 last s.1)
+  leads_from : (a last : ℕ) → ClosesCycle u a last → Contains (module_numbers u) a
+  leads_from a last (inl e, s) = subst (Contains (module_numbers u)) (sym e) (is_declared s.0 last s.1)
   leads_from a last (inr r, s) = first_step a last r
 
   -- ---- declarations that reach themselves
@@ -82,18 +82,18 @@ module _ (u : UnitView) where
         by : Contains (cycle_by u a last) f ⊎ Contains rest f → (Contains rest f → IsFound u b f) → IsFound u b f
         by (inl d) k =
             let s = by_first a last f d in
-            let p : LeadsBack u a s.0 = first_is (LeadsBack u a) (declared u) s.0 (subst (IsFirst (LeadsBack u a) (declared u)) s.1 first) in
+            let p : ClosesCycle u a s.0 = first_is (ClosesCycle u a) (module_numbers u) s.0 (subst (IsFirst (ClosesCycle u a) (module_numbers u)) s.1 first) in
             subst (IsFound u b) s.2 (record { first = a; last = s.0; named = refl; named_last = refl; leads_there = p.0; leads_back = p.1 })
         by (inr d) k = k d
 
-  cycle_told : (others : List ℕ) (fs : List Finding) → AreCycles u others fs → (a last : ℕ) → Contains others a → Contains (declared u) last → LeadsBack u a last → (x : ℕ) × Contains fs (cycle (spelling u a) (spelling u x))
+  cycle_told : (others : List ℕ) (fs : List Finding) → AreCycles u others fs → (a last : ℕ) → Contains others a → Contains (module_numbers u) last → ClosesCycle u a last → (x : ℕ) × Contains fs (cycle (spelling u a) (spelling u x))
   cycle_told [] fs e a last c d p = absurd (contains_none a c)
   cycle_told (x ∷ others) fs (r, rest, first, more, e) a last c d p = by (contains_cases x a others c) (λ k. cycle_told others rest more a last k d p)
     where
       by : (x ≡ a) ⊎ Contains others a → (Contains others a → (y : ℕ) × Contains rest (cycle (spelling u a) (spelling u y))) → (y : ℕ) × Contains fs (cycle (spelling u a) (spelling u y))
       by (inl q) told =
-          let back : LeadsBack u x last = subst (λ k. LeadsBack u k last) (sym q) p in
-          let s = one_is (LeadsBack u x) (declared u) r first last d back in
+          let back : ClosesCycle u x last = subst (λ k. ClosesCycle u k last) (sym q) p in
+          let s = one_is (ClosesCycle u x) (module_numbers u) r first last d back in
           let here : Contains (cycle_by u x r) (cycle (spelling u x) (spelling u s.0)) = subst (λ o. Contains (cycle_by u x o) (cycle (spelling u x) (spelling u s.0))) (sym s.1) (contains_here (cycle (spelling u x) (spelling u s.0)) []) in
           (s.0, subst (λ k. Contains fs (cycle (spelling u k) (spelling u s.0))) q (subst (λ xs. Contains xs (cycle (spelling u x) (spelling u s.0))) (sym e) (Contains-append_left (cycle_by u x r) rest (cycle (spelling u x) (spelling u s.0)) here)))
       by (inr k) told =
@@ -103,7 +103,7 @@ module _ (u : UnitView) where
   one_cycles : (others : List ℕ) (fs gs : List Finding) → AreCycles u others fs → AreCycles u others gs → fs ≡ gs
   one_cycles [] fs gs e f = e ∙ sym f
   one_cycles (a ∷ others) fs gs (last, rest, first, r, e) (other, more, second, s, f) =
-      e ∙ (ap (λ o. cycle_by u a o ++ rest) (one_first (LeadsBack u a) (declared u) last other first second) ∙ (ap (λ xs. cycle_by u a other ++ xs) (one_cycles others rest more r s) ∙ sym f))
+      e ∙ (ap (λ o. cycle_by u a o ++ rest) (one_first (ClosesCycle u a) (module_numbers u) last other first second) ∙ (ap (λ xs. cycle_by u a other ++ xs) (one_cycles others rest more r s) ∙ sym f))
 
   -- ---- names that are declared again
   twice_is : (n : Text) → StandsTwice (plain_names u) n → IsDuplicate u n
@@ -141,7 +141,7 @@ module _ (u : UnitView) (b : BuiltinNames) where
       (to_mapped said (filter (is_undefined u b) (all u)) f.found (to_passing (is_undefined u b) (all u) f.found f.there f.undefined))
 
   -- ---- all of them
-  module _ (cs : List Finding) (are : AreCycles u (declared u) cs) where
+  module _ (cs : List Finding) (are : AreCycles u (module_numbers u) cs) where
     abbrev listed : List Finding
     listed = undefineds u b ++ duplicates u ++ cs
 
@@ -154,14 +154,14 @@ module _ (u : UnitView) (b : BuiltinNames) where
 
         by : Contains (undefineds u b ++ duplicates u) f ⊎ Contains cs f → IsFound u b f
         by (inl d) = first (Contains-append_cases (undefineds u b) (duplicates u) f d)
-        by (inr d) = cycles_stand u b (declared u) cs are f d
+        by (inr d) = cycles_stand u b (module_numbers u) cs are f d
 
     cause_listed : (f : Finding) → IsFound u b f → IsCauseTold listed f
     cause_listed (undefined d n) h = Contains-append_left (undefineds u b ++ duplicates u) cs (undefined d n) (Contains-append_left (undefineds u b) (duplicates u) (undefined d n) (to_undefineds d n h))
     cause_listed (duplicate n) h = Contains-append_left (undefineds u b ++ duplicates u) cs (duplicate n) (Contains-append_right (undefineds u b) (duplicates u) (duplicate n) (to_duplicates u n h))
     cause_listed (cycle n v) h =
-        let p : LeadsBack u h.first h.last = (h.leads_there, h.leads_back) in
-        let s = cycle_told u (declared u) cs are h.first h.last (leads_from u h.first h.last p) (is_declared u h.leads_back.0 h.last h.leads_back.1) p in (
+        let p : ClosesCycle u h.first h.last = (h.leads_there, h.leads_back) in
+        let s = cycle_told u (module_numbers u) cs are h.first h.last (leads_from u h.first h.last p) (is_declared u h.leads_back.0 h.last h.leads_back.1) p in (
           spelling u s.0,
           subst (λ m. Contains listed (cycle m (spelling u s.0))) h.named
               (Contains-append_right (undefineds u b ++ duplicates u) cs (cycle (spelling u h.first) (spelling u s.0)) s.1),
@@ -209,7 +209,7 @@ pub lists_each_once : ListsEachOnce
 lists_each_once u b fs a = subst (AllPairs (λ f g. f ≢ g)) (sym a.listed) (once_apart (undefineds u b ++ duplicates u ++ a.cycles))
 
 pub is_one_list : IsOneList
-is_one_list u b fs gs a c = a.listed ∙ (ap (λ cs. each_once (undefineds u b ++ duplicates u ++ cs)) (one_cycles u (declared u) a.cycles c.cycles a.are_cycles c.are_cycles) ∙ sym c.listed)
+is_one_list u b fs gs a c = a.listed ∙ (ap (λ cs. each_once (undefineds u b ++ duplicates u ++ cs)) (one_cycles u (module_numbers u) a.cycles c.cycles a.are_cycles c.are_cycles) ∙ sym c.listed)
 
 pub empty : (gs : List Finding) → ((f : Finding) → Contains gs f → ⊥) → gs ≡ []
 empty [] n = refl

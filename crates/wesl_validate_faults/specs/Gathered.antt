@@ -1,20 +1,20 @@
 -- What is gathered of a module, one after the other.
-use Rattle.std.specs.Prelude.{◌≡◌, ◌⊎◌, ℕ, Bool, ◌&&◌, ◌==◌, Option, Some, None, List, [], ◌∷◌, ◌++◌, map, flat_map, slice_get, if◌then◌else◌}
+use Rattle.std.specs.Prelude.{◌≡◌, ℕ, Bool, ◌&&◌, ◌==◌, Option, Some, None, List, [], ◌∷◌, ◌++◌, map, flat_map, slice_get, if◌then◌else◌}
 use Rattle.std.specs.List.{list_any}
 use Rattle.std.specs.Option.{option_map}
 use Rattle.wesl_tree_names.specs.Path.{Text}
 use Rattle.wesl_tree_syntax.specs.Unit.{UnitView, name_in}
-use Rattle.wesl_scope_graph.specs.Graphs.{Graph, edges_at, Leads}
+use Rattle.wesl_scope_graph.specs.Graphs.{Graph, edges_at}
 use Rattle.wesl_scope_graph.specs.Marks.{mark_at}
 use Rattle.wesl_scope_occurrences.specs.Occurrences.{is_module_name}
 use Rattle.wesl_scope_occurrences.specs.Walk.{Found}
 use Rattle.wesl_scope_strip.specs.Marks.{names_here}
-use Rattle.wesl_validate_rules.specs.Graphs.{Path}
+use Rattle.wesl_validate_rules.specs.Graphs.{IsRing}
 use Rattle.wesl_validate_rules.specs.Known.{is_unknown}
 use Rattle.wesl_validate_calls.specs.declared.misfit.Misfit.{Misfit}
 use Rattle.wesl_validate_calls.specs.declared.misfit.Misfit.TheVariants as misfit
 use Rattle.wesl_validate_faults.specs.Findings as spec
-use Rattle.wesl_validate_faults.specs.Listed.{declared, AreCycles, IsFirst}
+use Rattle.wesl_validate_faults.specs.Listed.{module_numbers, AreCycles, IsFirst}
 use Rattle.wesl_validate_faults.specs.declared.finding.Finding.{Finding}
 use Rattle.wesl_validate_faults.specs.declared.finding.Finding.TheVariants as made
 
@@ -79,15 +79,11 @@ module _ (names : List Text) where
 abbrev pub closes : Graph → List Bool → ℕ → ℕ → Bool
 closes g marks a last = mark_at marks last && list_any (λ t. t == a) (edges_at g last)
 
--- a node reaches another, or is it, which leads back
-abbrev pub ClosesRing : Graph → ℕ → ℕ → Type 0
-ClosesRing g a last = ((a ≡ last) ⊎ Path g a last) × Leads g last a
-
 -- of these nodes those that reach themselves
 abbrev pub AreRings : List Text → Graph → List ℕ → List ℕ → List spec.Finding → Type 0
 AreRings names g declared [] fs = fs ≡ []
 AreRings names g declared (a ∷ others) fs =
-    (last : Option ℕ) × (rest : List spec.Finding) × IsFirst (ClosesRing g a) declared last × AreRings names g declared others rest × (fs ≡ cycle_here names a last ++ rest)
+    (last : Option ℕ) × (rest : List spec.Finding) × IsFirst (IsRing g a) declared last × AreRings names g declared others rest × (fs ≡ cycle_here names a last ++ rest)
 
 -- they are added
 abbrev pub AddsRings : List Text → Graph → List ℕ → List spec.Finding → List spec.Finding → Type 0
@@ -95,4 +91,4 @@ AddsRings names g declared old new = (cs : List spec.Finding) × AreRings names 
 
 -- the declarations of a module that reach themselves are put after those before
 abbrev pub AddsCycles : UnitView → List Finding → List Finding → Type 0
-AddsCycles u old new = (cs : List spec.Finding) × AreCycles u (declared u) cs × AreAdded old new cs
+AddsCycles u old new = (cs : List spec.Finding) × AreCycles u (module_numbers u) cs × AreAdded old new cs

@@ -28,12 +28,12 @@ IsFirst P (x ∷ xs) first = (P x × (first ≡ Some x)) ⊎ ((P x → ⊥) × I
 
 module _ (u : UnitView) where
   -- the numbers of the names of imports and declarations, in document order
-  abbrev pub declared : List ℕ
-  declared = map (λ o. o.name) (filter (λ o. is_module_name o.role) (all u))
+  abbrev pub module_numbers : List ℕ
+  module_numbers = map (λ o. o.name) (filter (λ o. is_module_name o.role) (all u))
 
   -- the number a reaches `last`, or is it, and `last` leads back to a
-  abbrev pub LeadsBack : ℕ → ℕ → Type 0
-  LeadsBack a last = ((a ≡ last) ⊎ Reaches u a last) × LeadsTo u last a
+  abbrev pub ClosesCycle : ℕ → ℕ → Type 0
+  ClosesCycle a last = ((a ≡ last) ⊎ Reaches u a last) × LeadsTo u last a
 
   -- one declaration that reaches itself, if the first that leads back to it is there
   abbrev pub cycle_by : ℕ → Option ℕ → List Finding
@@ -43,7 +43,7 @@ module _ (u : UnitView) where
   -- of these numbers each that reaches itself, with the first in document order that leads back to it
   abbrev pub AreCycles : List ℕ → List Finding → Type 0
   AreCycles [] fs = fs ≡ []
-  AreCycles (a ∷ others) fs = (last : Option ℕ) × (rest : List Finding) × IsFirst (LeadsBack a) declared last × AreCycles others rest × (fs ≡ cycle_by a last ++ rest)
+  AreCycles (a ∷ others) fs = (last : Option ℕ) × (rest : List Finding) × IsFirst (ClosesCycle a) module_numbers last × AreCycles others rest × (fs ≡ cycle_by a last ++ rest)
 
   -- a name for each time that it is declared again, where the import or the declaration has no condition
   abbrev pub duplicates : List Finding
@@ -58,5 +58,5 @@ module _ (u : UnitView) (b : BuiltinNames) where
   -- themselves; each of the three in document order, and each finding once
   pub record AreFindings (fs : List Finding) : Type 0 where
     pub cycles : List Finding
-    pub are_cycles : AreCycles u (declared u) cycles
+    pub are_cycles : AreCycles u (module_numbers u) cycles
     pub listed : fs ≡ each_once (undefineds ++ duplicates u ++ cycles)

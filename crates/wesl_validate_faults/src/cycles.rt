@@ -5,9 +5,9 @@ ghost use Rattle.wesl_tree_syntax.specs.Unit.{UnitView};
 ghost use Rattle.wesl_scope_graph.specs.Graphs.{graph_view, edges_at, IsClosed};
 ghost use Rattle.wesl_scope_graph.specs.Marks.{mark_at};
 ghost use Rattle.wesl_scope_occurrences.specs.Views.{occurrence_view};
-ghost use Rattle.wesl_validate_rules.specs.Graphs.{Path};
+ghost use Rattle.wesl_validate_rules.specs.Graphs.{IsRing, Path};
 ghost use Rattle.wesl_validate_rules.specs.Known.{IsNamedBy};
-ghost use Rattle.wesl_validate_faults.specs.Gathered.{AreAdded, AddsCycles, findings_view, declared_here, declared_among, cycle_here, AddsRings, closes, ClosesRing};
+ghost use Rattle.wesl_validate_faults.specs.Gathered.{AreAdded, AddsCycles, findings_view, declared_here, declared_among, cycle_here, AddsRings, closes};
 ghost use Rattle.wesl_validate_faults.specs.Listed.{IsFirst};
 
 use crate::finding::Finding;
@@ -118,7 +118,7 @@ fn last_of(
     node: usize,
 ) -> Result<Option<usize>, AllocError>
     requires closed { IsClosed (graph_view graph.now) }
-    ensures { IfOk result (IsFirst (ClosesRing (graph_view graph.now) node) declared.now.items) }
+    ensures { IfOk result (IsFirst (IsRing (graph_view graph.now) node) declared.now.items) }
 {
     let marks = reached_from(alloc, graph, node)?;
     Ok(first_closing(graph, &marks, declared, node))

@@ -5,12 +5,12 @@ use Rattle.wesl_validate_rules.specs.declared.graph.Mark.{Mark}
 use Rattle.wesl_validate_rules.specs.declared.graph.Mark.TheVariants.{New, Open, Done}
 
 -- the node to which edge k of the node a leads, counted from 0; past the last edge node 0
-abbrev pub target_at : Graph → ℕ → ℕ → ℕ
-target_at g a k = get_or (edges_at g a) k 0
+abbrev pub edge_target : Graph → ℕ → ℕ → ℕ
+edge_target g a k = get_or (edges_at g a) k 0
 
 -- how far a search is with the node a; a node past the end of the marks was not met
-abbrev pub mark_at : List Mark → ℕ → Mark
-mark_at ms a = get_or ms a New
+abbrev pub stage_at : List Mark → ℕ → Mark
+stage_at ms a = get_or ms a New
 
 -- how many edges of the node a are left to look at; of a node past the end of the list none
 abbrev pub left_at : List ℕ → ℕ → ℕ
@@ -25,7 +25,7 @@ OnWay a (b ∷ ws) = (b ≡ a) ⊎ OnWay a ws
 module _ (g : Graph) (ms : List Mark) (ls : List ℕ) where
   -- each edge that was looked at leads to a node that is done or to the next on the way
   abbrev pub Looked : ℕ → Option ℕ → Type 0
-  Looked a above = (k : ℕ) → left_at ls a ≤ k → k < length (edges_at g a) → (mark_at ms (target_at g a k) ≡ Done) ⊎ (above ≡ Some (target_at g a k))
+  Looked a above = (k : ℕ) → left_at ls a ≤ k → k < length (edges_at g a) → (stage_at ms (edge_target g a k) ≡ Done) ⊎ (above ≡ Some (edge_target g a k))
 
   -- the node a leads to the next on the way, if there is one
   abbrev pub Onward : ℕ → Option ℕ → Type 0
@@ -43,9 +43,9 @@ module _ (g : Graph) (ms : List Mark) (ls : List ℕ) where
   pub record IsSearch (ws : List ℕ) : Type 0 where
     pub marks_sized : length ms ≡ length g
     pub left_sized : length ls ≡ length g
-    pub fresh : (a : ℕ) → a < length g → mark_at ms a ≡ New → left_at ls a ≡ length (edges_at g a)
+    pub fresh : (a : ℕ) → a < length g → stage_at ms a ≡ New → left_at ls a ≡ length (edges_at g a)
     pub within : (a : ℕ) → a < length g → left_at ls a ≤ length (edges_at g a)
-    pub done : (a : ℕ) → mark_at ms a ≡ Done → IsGrounded g a
-    pub on_way : (a : ℕ) → mark_at ms a ≡ Open → OnWay a ws
-    pub opened : (a : ℕ) → OnWay a ws → mark_at ms a ≡ Open
+    pub done : (a : ℕ) → stage_at ms a ≡ Done → IsGrounded g a
+    pub on_way : (a : ℕ) → stage_at ms a ≡ Open → OnWay a ws
+    pub opened : (a : ℕ) → OnWay a ws → stage_at ms a ≡ Open
     pub way : AreWay None ws

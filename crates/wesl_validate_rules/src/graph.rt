@@ -1,7 +1,7 @@
 //! Rings of a graph, by a search along its edges.
 ghost use Rattle.std.specs.Prelude.{◌≡◌, ◌≢◌, ◌<◌, ℕ, [], length, map, reverse, IfOk, IfSome, IfNone};
 ghost use Rattle.wesl_validate_rules.specs.Graphs.{graph_view, IsClosed, IsGrounded, IsRing};
-ghost use Rattle.wesl_validate_rules.specs.Searches.{IsSearch, mark_at};
+ghost use Rattle.wesl_validate_rules.specs.Searches.{IsSearch, stage_at};
 ghost use Rattle.wesl_validate_rules.specs.declared.graph.Mark.TheVariants.{New};
 
 use std::alloc::{AllocError, Global};
@@ -29,7 +29,7 @@ fn go_on(
     ensures ring { IfOk result (λ r. IfSome r (λ p. IsRing (graph_view graph.now) p.0 p.1)) }
     ensures none { IfOk result (λ r. IfNone r (IsSearch (graph_view graph.now) marks.new left.new [])) }
     ensures emptied { IfOk result (λ r. IfNone r (way.new.items ≡ [])) }
-    ensures met { IfOk result (λ r. IfNone r ((a : ℕ) → mark_at marks.old a ≢ New → mark_at marks.new a ≢ New)) }
+    ensures met { IfOk result (λ r. IfNone r ((a : ℕ) → stage_at marks.old a ≢ New → stage_at marks.new a ≢ New)) }
 {
     while let Some(node) = way.pop() {
         let edges = left[node];
@@ -56,7 +56,7 @@ fn go_on(
 #[tactic(auto, using(crate::proofs::Turns::all_new))]
 fn new_marks(alloc: Global, graph: &[Vec<usize>]) -> Result<Vec<Mark>, AllocError>
     ensures all { IfOk result (λ marks. length marks.items ≡ length graph.now) }
-    ensures new { IfOk result (λ marks. (a : ℕ) → mark_at marks.items a ≡ New) }
+    ensures new { IfOk result (λ marks. (a : ℕ) → stage_at marks.items a ≡ New) }
 {
     Ok(vec![in alloc; Mark::New; graph.len()]?)
 }
@@ -87,8 +87,8 @@ fn search_from(
     ensures ring { IfOk result (λ r. IfSome r (λ p. IsRing (graph_view graph.now) p.0 p.1)) }
     ensures none { IfOk result (λ r. IfNone r (IsSearch (graph_view graph.now) marks.new left.new [])) }
     ensures emptied { IfOk result (λ r. IfNone r (way.new.items ≡ [])) }
-    ensures met { IfOk result (λ r. IfNone r ((a : ℕ) → mark_at marks.old a ≢ New → mark_at marks.new a ≢ New)) }
-    ensures here { IfOk result (λ r. IfNone r (mark_at marks.new start ≢ New)) }
+    ensures met { IfOk result (λ r. IfNone r ((a : ℕ) → stage_at marks.old a ≢ New → stage_at marks.new a ≢ New)) }
+    ensures here { IfOk result (λ r. IfNone r (stage_at marks.new start ≢ New)) }
 {
     match marks[start] {
         Mark::New => {

@@ -4,7 +4,7 @@ use Rattle.wesl_tree_syntax.specs.Tree.{Label, kind, at, expression_node, statem
 use Rattle.wesl_tree_syntax.specs.Nodes.{is_formula, is_import_or_directive}
 use Rattle.wesl_visit_collect.specs.Held.{flat_label, hollow_label}
 use Rattle.wesl_visit_collect.specs.Picks.{picks}
-use Rattle.wesl_visit_rewrite.specs.Replaced.{is_word}
+use Rattle.wesl_visit_rewrite.specs.Replaced.{is_passed_over}
 use Rattle.wesl_visit_collect.specs.Sought.{Sought, expressions, types, statements, attribute_lists, test}
 
 pub both : (a b : Bool) → (a && b) ≡ true → (a ≡ true) × (b ≡ true)
@@ -37,7 +37,7 @@ agrees attribute_lists _ = refl
 abbrev pub words : Label → Bool
 words l = is_formula l || is_import_or_directive l
 
-pub no_word : (k : Sought) (l : Label) → words l ≡ false → is_word k l ≡ false
+pub no_word : (k : Sought) (l : Label) → words l ≡ false → is_passed_over k l ≡ false
 no_word expressions l h = h
 no_word types l h = h
 no_word statements l h = refl

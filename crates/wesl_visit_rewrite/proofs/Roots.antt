@@ -2,7 +2,7 @@
 use Rattle.std.proofs.Common.{◌≡◌, Bool, true, false, refl, sym, ap, ◌∙◌, subst}
 use Rattle.wesl_tree_syntax.specs.Tree.{Label, Forest, Tree, end, tree, before, kind, type_expression}
 use Rattle.wesl_visit_collect.specs.Picks.{picks}
-use Rattle.wesl_visit_rewrite.specs.Replaced.{Rule, is_word, Replaced, nothing, word, other, as_it_stands, inner_first, Stopped, at_node, after_inner, inside_node, inside_other, later, ReplacedBelow, of_word, of_other, StoppedBelow, within}
+use Rattle.wesl_visit_rewrite.specs.Replaced.{Rule, is_passed_over, Replaced, nothing, word, other, as_it_stands, inner_first, Stopped, at_node, after_inner, inside_node, inside_other, later, ReplacedBelow, of_word, of_other, StoppedBelow, within}
 use Rattle.wesl_visit_collect.specs.Sought.{test}
 use Rattle.wesl_visit_rewrite.specs.Went.{Went, WentBy, WentBelow, WentBelowBy}
 use Rattle.wesl_visit_rewrite.proofs.Labels.{agrees, no_word}
@@ -32,7 +32,7 @@ module _ (k : Rule) where
   root_by true s t n r = replaced_root n r
   root_by false s t n r = stopped_root n r
 
-  below_by : (b : Bool) (l m : Label) (f g : Forest) → m ≡ l → is_word k.sought l ≡ false → WentBy k true f b g → WentBelowBy k (record { label = l; children = f }) b (record { label = m; children = g })
+  below_by : (b : Bool) (l m : Label) (f g : Forest) → m ≡ l → is_passed_over k.sought l ≡ false → WentBy k true f b g → WentBelowBy k (record { label = l; children = f }) b (record { label = m; children = g })
   below_by true l m f g e w r = subst (λ x. ReplacedBelow k (record { label = l; children = f }) (record { label = x; children = g })) (sym e) (of_other w r)
   below_by false l m f g e w r = subst (λ x. StoppedBelow k (record { label = l; children = f }) (record { label = x; children = g })) (sym e) (within w r)
 
@@ -42,4 +42,4 @@ root k b s t n r = record { went = root_by k b s t (agrees k.sought s.label ∙ 
 
 -- where it is a type
 pub type_root : (k : Rule) (b : Bool) (s t : Tree) → s.label ≡ kind type_expression → t.label ≡ kind type_expression → Went k true s.children b t.children → WentBelow k s b t
-type_root k b s t p q r = record { went = below_by k b s.label t.label s.children t.children (q ∙ sym p) (ap (is_word k.sought) p ∙ no_word k.sought (kind type_expression) refl) r.went }
+type_root k b s t p q r = record { went = below_by k b s.label t.label s.children t.children (q ∙ sym p) (ap (is_passed_over k.sought) p ∙ no_word k.sought (kind type_expression) refl) r.went }

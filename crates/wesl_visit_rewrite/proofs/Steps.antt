@@ -7,7 +7,7 @@ use Rattle.wesl_tree_syntax.specs.View.{expression_tree, listed}
 use Rattle.wesl_tree_syntax.specs.declared.expression.Expression.{Expression}
 use Rattle.wesl_tree_syntax.specs.declared.span.Spanned.{Spanned}
 use Rattle.wesl_visit_collect.specs.Sought.{test}
-use Rattle.wesl_visit_rewrite.specs.Replaced.{Rule, is_word, Replaced, nothing, word, other, as_it_stands, inner_first, Stopped, at_node, after_inner, inside_node, inside_other, later}
+use Rattle.wesl_visit_rewrite.specs.Replaced.{Rule, is_passed_over, Replaced, nothing, word, other, as_it_stands, inner_first, Stopped, at_node, after_inner, inside_node, inside_other, later}
 use Rattle.wesl_visit_collect.specs.Picks.{picks}
 use Rattle.wesl_visit_collect.specs.Finished.{Finished, FinishedBy, TurnedBy}
 use Rattle.wesl_visit_rewrite.specs.Went.{Went, WentBy}
@@ -55,7 +55,7 @@ module _ (k : Rule) where
   joined_by false false false f g h i p q = cc
 
   -- a node that is of no kind and is not passed over, and below it
-  pub within_by : (a b : Bool) (l : Label) (f g : Forest) → is_word k.sought l ≡ false → test k.sought l ≡ false → WentBy k a f b g → WentBy k a (tree l f end) b (tree l g end)
+  pub within_by : (a b : Bool) (l : Label) (f g : Forest) → is_passed_over k.sought l ≡ false → test k.sought l ≡ false → WentBy k a f b g → WentBy k a (tree l f end) b (tree l g end)
   within_by true true l f g w p r = other w p r nothing
   within_by true false l f g w p r = inside_other w p r
   within_by false true l f g w p r = absurd r
@@ -135,7 +135,7 @@ module _ {k : Rule} where
   taken_else o r l t n p e h w d = taken_after l t n p (sym e ∙ h) w d
 
 -- where no label is a word or of the kind, all stands as it was
-pub replaced_none : (k : Rule) (p : Label → Bool) → ((l : Label) → p l ≡ true → is_word k.sought l ≡ false) → ((l : Label) → p l ≡ true → test k.sought l ≡ false) → (f : Forest) → all_of p f ≡ true → Replaced k f f
+pub replaced_none : (k : Rule) (p : Label → Bool) → ((l : Label) → p l ≡ true → is_passed_over k.sought l ≡ false) → ((l : Label) → p l ≡ true → test k.sought l ≡ false) → (f : Forest) → all_of p f ≡ true → Replaced k f f
 replaced_none k p v w end h = nothing
 replaced_none k p v w (tree l children others) h =
     let a = both (p l && all_of p children) (all_of p others) h in

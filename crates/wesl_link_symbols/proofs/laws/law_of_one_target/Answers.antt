@@ -1,5 +1,5 @@
-use Rattle.wesl_link_symbols.proofs.Once.{as_before}
+use Rattle.wesl_link_symbols.proofs.Once.{answered_plainly}
 use Rattle.wesl_link_symbols.proofs.laws.law_of_one_target.Goals as goal
 
 pub returns : goal.returns
-returns g c = as_before
+returns g c = answered_plainly

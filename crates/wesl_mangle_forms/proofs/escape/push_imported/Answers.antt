@@ -5,7 +5,7 @@ use Rattle.std.specs.Fmt.{decimal}
 use lib.Chars.{codes}
 use Rattle.wesl_tree_names.specs.Path.{Text}
 use Rattle.wesl_mangle_forms.specs.Escape.{from_pieces, escaped_part}
-use Rattle.wesl_mangle_forms.specs.Views.{texts}
+use Rattle.wesl_tree_base.specs.Borrowed.{texts}
 use Rattle.wesl_mangle_forms.proofs.Reading.{some-part}
 use Rattle.wesl_mangle_forms.proofs.Writing.{written-more}
 use Rattle.wesl_mangle_forms.proofs.Written.{then, worded}

@@ -2,7 +2,7 @@ use Rattle.std.proofs.Common.{◌∙◌, ap, ◌∷◌, ◌++◌, get_or, refl, 
 use Rattle.std.proofs.lemmas.List.{take_all}
 use Rattle.wesl_tree_names.specs.Path.{Text}
 use Rattle.wesl_mangle_forms.specs.Escape.{from_pieces}
-use Rattle.wesl_mangle_forms.specs.Views.{texts}
+use Rattle.wesl_tree_base.specs.Borrowed.{texts}
 use Rattle.wesl_mangle_forms.proofs.Counting.{joined-more}
 use Rattle.wesl_mangle_forms.proofs.unescape.joined.Goals as goal
 

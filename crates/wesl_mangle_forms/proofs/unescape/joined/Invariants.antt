@@ -1,6 +1,6 @@
 use Rattle.std.proofs.Common.{◌≡◌, ◌∷◌, take, string_bytes}
 use Rattle.wesl_mangle_forms.specs.Escape.{from_pieces}
-use Rattle.wesl_mangle_forms.specs.Views.{texts}
+use Rattle.wesl_tree_base.specs.Borrowed.{texts}
 use Rattle.wesl_mangle_forms.proofs.unescape.joined.Given as goal
 
 abbrev pub invariant-loop-piece : goal.invariant-loop-piece

@@ -2,7 +2,8 @@ use Rattle.std.proofs.Common.{◌+◌, ◌++◌, ◌∷◌, [], ◌∙◌, ap, L
 use Rattle.std.proofs.lemmas.List.{length-map, map-append}
 use Rattle.wesl_tree_names.specs.Path.{Text}
 use Rattle.wesl_mangle_forms.specs.Escape.{read_all_names}
-use Rattle.wesl_mangle_forms.specs.Views.{texts, names_view}
+use Rattle.wesl_tree_base.specs.Borrowed.{texts}
+use Rattle.wesl_tree_syntax.specs.View.{texts_of}
 use Rattle.wesl_mangle_forms.proofs.Names.{read_name-shorter}
 use Rattle.wesl_mangle_forms.proofs.Places.{none-at, some-at, within-at, all-none, all-more}
 use Rattle.wesl_mangle_forms.proofs.unescape.read_all_names.Goals as goal
@@ -13,7 +14,7 @@ returns-in_default c =
     let n = c.loop-place.place in
     let m = length-map l (λ x. x.now) in
     let d = length-drop n (texts l) in
-    all-none (names_view c.loop-place.names) (drop n (texts l)) _ (omega (arith, m, d, c.loop-place-test.true))
+    all-none (texts_of c.loop-place.names) (drop n (texts l)) _ (omega (arith, m, d, c.loop-place-test.true))
     (none-at n l c.in_ok-name.field-0 c.in_ok-name.ensures.read c.in_default.is) c.loop-place.invariant.read
 
 pub loop-place-smaller : goal.loop-place-smaller
@@ -37,6 +38,6 @@ loop-place-preserved c =
     record {
       within = within-at n l c.in_ok-name.field-0 c.in-Some.name c.in-Some.taken c.loop-place.invariant.within c.in-Some.is c.in_ok-name.ensures.within;
       read = ap (λ (ns : List Text). option_map (λ more. ns ++ more) (read_all_names (length rest) rest)) v
-          ∙ all-more (names_view c.loop-place.names) (drop n (texts l)) (string_bytes c.in-Some.name) rest _ (omega (arith, m, d, c.loop-place-test.true))
+          ∙ all-more (texts_of c.loop-place.names) (drop n (texts l)) (string_bytes c.in-Some.name) rest _ (omega (arith, m, d, c.loop-place-test.true))
           (some-at n l c.in_ok-name.field-0 c.in-Some.name c.in-Some.taken c.in_ok-name.ensures.read c.in-Some.is) c.loop-place.invariant.read;
     }

@@ -1,6 +1,6 @@
 use Rattle.std.proofs.Common.{◌∙◌, ap}
 use Rattle.wesl_mangle_forms.specs.Escape.{unescaped}
-use Rattle.wesl_mangle_forms.specs.Views.{texts}
+use Rattle.wesl_tree_base.specs.Borrowed.{texts}
 use Rattle.wesl_mangle_forms.proofs.Writing.{IfOk-to, through}
 use Rattle.wesl_mangle_forms.proofs.unescape.read_escape.Goals as goal
 

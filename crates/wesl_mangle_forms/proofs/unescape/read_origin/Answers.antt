@@ -1,5 +1,5 @@
 use Rattle.std.proofs.Common.{◌∙◌, sym, ap}
-use Rattle.wesl_mangle_forms.specs.Views.{texts}
+use Rattle.wesl_tree_base.specs.Borrowed.{texts}
 use Rattle.wesl_mangle_forms.proofs.Places.{origin-supers}
 use Rattle.wesl_mangle_forms.proofs.unescape.read_origin.Goals as goal
 

@@ -2,7 +2,8 @@ use Rattle.std.proofs.Common.{◌≡◌, ◌∙◌, sym, ap, List, length, drop,
 use Rattle.std.specs.Prelude.{option_and_then}
 use Rattle.wesl_tree_names.specs.Path.{Text, origin_view}
 use Rattle.wesl_mangle_forms.specs.Escape.{read_origin, read_all_names, item_below}
-use Rattle.wesl_mangle_forms.specs.Views.{texts, origin_before}
+use Rattle.wesl_tree_base.specs.Borrowed.{texts}
+use Rattle.wesl_mangle_forms.specs.Views.{origin_before}
 use Rattle.wesl_mangle_forms.proofs.Places.{from_place-texts, whole}
 use Rattle.wesl_mangle_forms.proofs.Writing.{IfOk-to}
 use Rattle.wesl_mangle_forms.proofs.unescape.unescaped.Goals as goal

@@ -2,7 +2,8 @@ use Rattle.std.proofs.Common.{◌≡◌, ◌∙◌, sym, ap, List, drop, Some, o
 use Rattle.wesl_tree_names.specs.Path.{Text, origin_view}
 use Rattle.wesl_mangle_forms.specs.Escape.{item_below}
 use Rattle.wesl_mangle_forms.specs.Unicode.{read_origin_words}
-use Rattle.wesl_mangle_forms.specs.Views.{texts, origin_before}
+use Rattle.wesl_tree_base.specs.Borrowed.{texts}
+use Rattle.wesl_mangle_forms.specs.Views.{origin_before}
 use Rattle.wesl_mangle_forms.proofs.Places.{from_place-texts}
 use Rattle.wesl_mangle_forms.proofs.Words.{words-step}
 use Rattle.wesl_mangle_forms.proofs.Writing.{IfOk-to}

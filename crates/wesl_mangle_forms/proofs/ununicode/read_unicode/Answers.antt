@@ -1,6 +1,6 @@
 use Rattle.std.proofs.Common.{◌∙◌, ap}
 use Rattle.wesl_mangle_forms.specs.Unicode.{item_of_words}
-use Rattle.wesl_mangle_forms.specs.Views.{texts}
+use Rattle.wesl_tree_base.specs.Borrowed.{texts}
 use Rattle.wesl_mangle_forms.proofs.Writing.{IfOk-to, through}
 use Rattle.wesl_mangle_forms.proofs.ununicode.read_unicode.Goals as goal
 

@@ -6,7 +6,7 @@ use Rattle.serde_json.specs.Find.{as_object}
 use Rattle.serde_json.specs.View.{members_view, view}
 use Rattle.serde_json.proofs.Views.{Entry}
 use Rattle.wesl_program_bundle.specs.Features.{feature_in, feature_of}
-use Rattle.wesl_program_bundle.specs.Parts.{IsUnread}
+use Rattle.wesl_program_bundle.specs.Parts.{IsUnreadUnder}
 use Rattle.wesl_program_bundle.proofs.Flags.{one-flag}
 use Rattle.wesl_program_bundle.proofs.features.flags_of.Goals as goal
 
@@ -21,8 +21,8 @@ loop-name-preserved c =
     subst (λ es. IsStrictlySortedBy string_cmp (keys_of es)) all c.iter-name-items.ensures.ordered in
     let is : as_object d ≡ Some (members_view (done ++ e ∷ c.next.new.self)) = sym c.in-Some.ensures ∙ ap (λ es. Some (members_view es)) all in
     let same : feature_in (view e.1) ≡ c.feature_of.result = ap (option_and_then feature_of) (sym c.as_str-in-loop-name.ensures) ∙ sym c.feature_of.ensures in
-    let bad : IfErr c.stated-answer.result (IsUnread (string_bytes e.0) c.feature_of.result) =
-    subst (λ k. IfErr c.stated-answer.result (IsUnread k c.feature_of.result)) c.as_str.ensures.value c.stated-answer.ensures.place in (
+    let bad : IfErr c.stated-answer.result (IsUnreadUnder (string_bytes e.0) c.feature_of.result) =
+    subst (λ k. IfErr c.stated-answer.result (IsUnreadUnder k c.feature_of.result)) c.as_str.ensures.value c.stated-answer.ensures.place in (
       done ++ e ∷ [],
       l.invariant.1 ∙ ap (λ es. done ++ es) c.in-Some-2.ensures.steps ∙ sym (append_assoc done (e ∷ []) c.next.new.self),
       one-flag d done e c.next.new.self is sorted l.flags l.invariant.2 c.feature_of.result same c.stated-answer.result c.stated-answer.ensures.ok bad c.with_flag-flags.result c.with_flag-flags.ensures.ok c.with_flag-flags.ensures.place,

@@ -4,7 +4,7 @@ use Rattle.std.proofs.lemmas.List.{drop_all}
 use Rattle.wesl_scope_occurrences.specs.Views.{occurrence_view}
 use Rattle.wesl_scope_strip.specs.Marks.{mark_at}
 use Rattle.wesl_scope_strip.proofs.Marking.{any_next, or_assoc, or_false}
-use Rattle.wesl_validate_calls.specs.Tables.{binds_here}
+use Rattle.wesl_validate_rules.specs.Known.{binds_here}
 use Rattle.wesl_validate_calls.proofs.numbers.bound_numbers.Goals as goal
 
 pub loop-occurrence-preserved : goal.loop-occurrence-preserved

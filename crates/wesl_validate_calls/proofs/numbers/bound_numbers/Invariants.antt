@@ -2,7 +2,7 @@ use Rattle.std.proofs.Common.{◌≡◌, ◌||◌, ℕ, map, drop}
 use Rattle.std.specs.List.{list_any}
 use Rattle.wesl_scope_occurrences.specs.Views.{occurrence_view}
 use Rattle.wesl_scope_strip.specs.Marks.{mark_at}
-use Rattle.wesl_validate_calls.specs.Tables.{binds_here}
+use Rattle.wesl_validate_rules.specs.Known.{binds_here}
 use Rattle.wesl_validate_calls.proofs.numbers.bound_numbers.Given as goal
 
 abbrev pub invariant-loop-occurrence : goal.invariant-loop-occurrence

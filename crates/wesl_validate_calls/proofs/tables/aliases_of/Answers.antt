@@ -1,7 +1,7 @@
 use Rattle.std.proofs.Common.{◌≡◌, ◌∙◌, ◌++◌, ◌<◌, ◌==◌, [], length, get_or, map, take, ap, sym, arith}
 use Rattle.std.specs.Prelude.{if◌then◌else◌}
 use Rattle.wesl_scope_occurrences.specs.Views.{occurrence_view}
-use Rattle.wesl_validate_calls.specs.Tables.{alias_named, one_or_none, edges_here, edges_of}
+use Rattle.wesl_validate_calls.specs.Tables.{alias_target, one_or_none, edges_here, edges_of}
 use Rattle.wesl_validate_calls.specs.Views.{shape_view}
 use Rattle.wesl_validate_calls.proofs.Tabling.{joined_next}
 use Rattle.wesl_validate_calls.proofs.tables.aliases_of.Goals as goal
@@ -18,8 +18,8 @@ loop-occurrence-preserved c =
     record {
       edges = λ m.
           c.in_ok-add_target.ensures.added m
-          ∙ (ap (λ ns. ns ++ (if item.ident.0 == m then one_or_none c.alias_named-target.result else [])) (c.loop-occurrence.invariant.edges m)
-          ∙ (ap (λ t. edges_of (alias_named shapes) m (map occurrence_view (take i found)) ++ (if item.ident.0 == m then one_or_none t else [])) c.alias_named-target.ensures
-          ∙ sym (joined_next occurrence_view (edges_here (alias_named shapes) m) found i item inside is)));
+          ∙ (ap (λ ns. ns ++ (if item.ident.0 == m then one_or_none c.alias_target-target.result else [])) (c.loop-occurrence.invariant.edges m)
+          ∙ (ap (λ t. edges_of (alias_target shapes) m (map occurrence_view (take i found)) ++ (if item.ident.0 == m then one_or_none t else [])) c.alias_target-target.ensures
+          ∙ sym (joined_next occurrence_view (edges_here (alias_target shapes) m) found i item inside is)));
       closed = c.in_ok-add_target.ensures.closed c.loop-occurrence.invariant.closed;
     }

@@ -7,7 +7,7 @@ use Rattle.wesl_validate_rules.specs.Graphs.{IsGrounded}
 use Rattle.wesl_validate_rules.specs.Steps.{steps}
 use Rattle.wesl_validate_rules.proofs.Stepping.{same_steps}
 use Rattle.wesl_validate_faults.specs.Gathered.{findings_view}
-use Rattle.wesl_validate_faults.specs.Listed.{declared}
+use Rattle.wesl_validate_faults.specs.Listed.{module_numbers}
 use Rattle.wesl_validate_faults.proofs.Listing.{declared_is}
 use Rattle.wesl_validate_faults.proofs.Rings.{are_cycles, none_are_cycles}
 use Rattle.wesl_validate_faults.proofs.cycles.add_cycles.Goals as goal
@@ -33,7 +33,7 @@ returns-in-None c =
     let g = graph_view c.deref.result.now in
     let edges : (a : ℕ) → edges_at g a ≡ steps os a = subst (λ xs. (a : ℕ) → edges_at (graph_view xs) a ≡ steps os a) (sym c.deref.ensures.value) c.in_ok-graph.ensures.steps in
     let ends : (a : ℕ) → IsGrounded g a = none_of c.in_ok-ring.field-0 ((a : ℕ) → IsGrounded g a) c.in-None.is c.in_ok-ring.ensures.none in
-    λ u n. ([], none_are_cycles u c.args.names.now n.same_names g (same_steps u (way found.outer.items) os n.same_identifiers g edges) ends (declared u), sym (append-nil (findings_view c.args.findings.now.items)))
+    λ u n. ([], none_are_cycles u c.args.names.now n.same_names g (same_steps u (way found.outer.items) os n.same_identifiers g edges) ends (module_numbers u), sym (append-nil (findings_view c.args.findings.now.items)))
 
 pub returns : goal.returns
 returns c =

@@ -1,7 +1,7 @@
 use Rattle.std.proofs.Common.{rules, ◌≡◌, ◌≢◌, ◌<◌, ◌+◌, ℕ, List, [], length, subst, sym, ap, arith}
 use Rattle.std.proofs.lemmas.List.{length-map, with_items_is}
 use Rattle.wesl_validate_rules.specs.Graphs.{Graph, graph_view}
-use Rattle.wesl_validate_rules.specs.Searches.{IsSearch, mark_at}
+use Rattle.wesl_validate_rules.specs.Searches.{IsSearch, stage_at}
 use Rattle.wesl_validate_rules.specs.declared.graph.Mark.{Mark}
 use Rattle.wesl_validate_rules.specs.declared.graph.Mark.TheVariants.{New}
 use Rattle.wesl_validate_rules.proofs.Turns.{begins, all_grounded, met_next, nothing_found}
@@ -27,11 +27,11 @@ loop-start-preserved c =
     let same_left = ap length c.deref_mut-in-loop-start.ensures.value in
     let all_marks : length f.new.marks ≡ m.len = omega (arith, f.auto.marks, same_marks, m.ok.0) in
     let all_left : length f.new.left ≡ l.len = omega (arith, f.auto.left, same_left, l.ok.0) in
-    let met : (a : ℕ) → mark_at m.items a ≢ New → mark_at f.new.marks a ≢ New = subst (λ ms. (a : ℕ) → mark_at ms a ≢ New → mark_at f.new.marks a ≢ New) c.deref_mut.ensures.value (nothing_found c.in_ok-found.field-0 ((a : ℕ) → mark_at c.deref_mut.result.now a ≢ New → mark_at f.new.marks a ≢ New) c.in-None.is c.in_ok-found.ensures.met) in
+    let met : (a : ℕ) → stage_at m.items a ≢ New → stage_at f.new.marks a ≢ New = subst (λ ms. (a : ℕ) → stage_at ms a ≢ New → stage_at f.new.marks a ≢ New) c.deref_mut.ensures.value (nothing_found c.in_ok-found.field-0 ((a : ℕ) → stage_at c.deref_mut.result.now a ≢ New → stage_at f.new.marks a ≢ New) c.in-None.is c.in_ok-found.ensures.met) in
     record {
       search = same_search g _ f.new.marks _ f.new.left (with_items_is m f.new.marks all_marks) (with_items_is l f.new.left all_left) (nothing_found c.in_ok-found.field-0 (IsSearch g f.new.marks f.new.left []) c.in-None.is c.in_ok-found.ensures.none);
       empty = nothing_found c.in_ok-found.field-0 (f.new.way.items ≡ []) c.in-None.is c.in_ok-found.ensures.emptied;
-      met = subst (λ ms. (a : ℕ) → a < c.loop-start.start + 1 → mark_at ms a ≢ New) (sym (with_items_is m f.new.marks all_marks)) (met_next m.items f.new.marks c.loop-start.start c.loop-start.invariant.met met (nothing_found c.in_ok-found.field-0 (mark_at f.new.marks c.loop-start.start ≢ New) c.in-None.is c.in_ok-found.ensures.here));
+      met = subst (λ ms. (a : ℕ) → a < c.loop-start.start + 1 → stage_at ms a ≢ New) (sym (with_items_is m f.new.marks all_marks)) (met_next m.items f.new.marks c.loop-start.start c.loop-start.invariant.met met (nothing_found c.in_ok-found.field-0 (stage_at f.new.marks c.loop-start.start ≢ New) c.in-None.is c.in_ok-found.ensures.here));
     }
 
 pub returns-clause-none : goal.returns-clause-none
