@@ -5,7 +5,7 @@ use Rattle.wesl_text_form.specs.Names.{are_names, is_name, is_origin}
 use Rattle.wesl_text_form.specs.Productions.{a_path}
 use Rattle.wesl_text_form.specs.Slots.{Slot}
 use Rattle.wesl_text_form.specs.Spelling.{Slots, followed, leaf_slots, named, origin_slots, provided, signed, stepped}
-use Rattle.wesl_text_print.specs.Printing.{name_slots}
+use Rattle.wesl_text_print.specs.Printing.{beginning_slots, name_slots}
 use Rattle.wesl_text_print.proofs.Lists.{all_slots}
 use Rattle.wesl_tree_base.specs.Pieces.{supers}
 use Rattle.wesl_tree_names.specs.Path.{Path, Text, origin_view, relative}
@@ -24,10 +24,10 @@ provided_then false ss us = refl
 
 -- where a path begins, as the code holds it
 abbrev pub origin_printed : PathOrigin → Slots
-origin_printed o = provided (is_origin false (origin_view o)) (origin_slots false (origin_view o))
+origin_printed o = beginning_slots (origin_view o)
 
 -- a path: where it begins, and its components
-pub path_printed : (p : Path) → followed (provided (is_origin false p.origin) (origin_slots false p.origin)) (provided (are_names p.components) (stepped p.components)) ≡ leaf_slots (a_path false) (path p) end
+pub path_printed : (p : Path) → followed (beginning_slots p.origin) (provided (are_names p.components) (stepped p.components)) ≡ leaf_slots (a_path false) (path p) end
 path_printed p = provided_both (is_origin false p.origin) (are_names p.components) (origin_slots false p.origin) (stepped p.components)
 
 -- one more name, with `::` behind it

@@ -3,7 +3,7 @@ use Rattle.std.specs.Prelude.{List, [], ◌∷◌, Bool, false, if◌then◌else
 use Rattle.std.specs.Prelude.{option_map, string_bytes}
 use Rattle.std.specs.Box.{box_value}
 use Rattle.std.specs.Global.{Box}
-use Rattle.wesl_tree_names.specs.Path.{Text, path_view}
+use Rattle.wesl_tree_names.specs.Path.{Origin, Text, path_view}
 use Rattle.wesl_tree_names.specs.declared.names.Ident.{Ident}
 use Rattle.wesl_tree_names.specs.declared.path.ModulePath.{ModulePath}
 use Rattle.wesl_tree_syntax.specs.Tree.{Tree, Forest, LabelOf, at, expression_node, forest_of, respell, respell_forest, truth, text, path, end}
@@ -16,11 +16,11 @@ use Rattle.wesl_text_tokens.specs.declared.symbol.Symbol.TheVariants as is
 use Rattle.wesl_text_tokens.specs.Tokens.{symbol, open_list, close_list}
 use Rattle.wesl_text_print.specs.declared.operand.OperandClass.{OperandClass}
 use Rattle.wesl_text_print.specs.declared.operand.OperandClass.TheVariants as operand
-use Rattle.wesl_text_form.specs.Names.{is_name}
+use Rattle.wesl_text_form.specs.Names.{is_name, is_origin}
 use Rattle.wesl_text_form.specs.Operators.{Class, class_of, operator_class, prefixed, primary}
 use Rattle.wesl_text_form.specs.Slots.{Slot, may, must}
 use Rattle.wesl_text_form.specs.Productions.{Sort, a_path, an_argument, an_expression}
-use Rattle.wesl_text_form.specs.Spelling.{Slots, followed, leaf_slots, named, provided, signed, slots_as, spells, trailing}
+use Rattle.wesl_text_form.specs.Spelling.{Slots, followed, leaf_slots, named, origin_slots, provided, signed, slots_as, spells, trailing}
 
 -- What the sink was given fills these slots; where there are none, it noted a fault.
 pub record Prints {S : Type 0} (after : Slots → S → S → Type 0) (old new : S) (ss : Slots) : Type 0 where
@@ -37,6 +37,10 @@ expression_slots names x = slots_in names an_expression (record { label = at exp
 -- the same of trees side by side, with commas between them
 abbrev pub separate_in : List Text → Sort → Forest → Slots
 separate_in names s ts = (spells (respell_forest (name_in names) ts)).separate s
+
+-- trees side by side with commas between them, and one that may stand behind them
+abbrev pub comma_slots : List Text → Sort → List Tree → Slots
+comma_slots names s ts = option_map trailing (separate_in names s (forest_of ts))
 
 -- the slot of a name; none where a text is no name
 abbrev pub name_slots : Text → Slots
@@ -58,6 +62,10 @@ only_if b ss = if b then ss else None
 abbrev pub class_at_node : Expression → Class
 class_at_node x = class_of (Some (expression_view x).label)
 
+-- an operand without parentheses; none where its operator takes no such class
+abbrev pub operand_slots : (Class → Bool) → List Text → Expression → Slots
+operand_slots is_taken names x = only_if (is_taken (class_at_node x)) (expression_slots names x)
+
 -- the class that the code finds
 abbrev pub class_by : OperandClass → Class
 class_by operand.Primary = primary
@@ -74,6 +82,10 @@ abbrev pub path_slots : Option (Box ModulePath) → Slots
 path_slots None = Some []
 path_slots (Some p) = leaf_slots (a_path false) (path (path_view (box_value p))) end
 
+-- where a path before a name begins; none where the name of a package is no name
+abbrev pub beginning_slots : Origin → Slots
+beginning_slots o = provided (is_origin false o) (origin_slots false o)
+
 -- a name with its path before it
 abbrev pub path_and_name : List Text → Option (Box ModulePath) → Ident → Slots
 path_and_name names p i = followed (path_slots p) (name_slots (name_in names i.0))
@@ -81,4 +93,4 @@ path_and_name names p i = followed (path_slots p) (name_slots (name_in names i.0
 -- a template list with its brackets; none where it is empty
 abbrev pub list_slots : List Text → List Tree → Slots
 list_slots names [] = None
-list_slots names (t ∷ ts) = followed (Some (must open_list ∷ [])) (followed (option_map trailing (separate_in names an_argument (forest_of (t ∷ ts)))) (Some (must close_list ∷ [])))
+list_slots names (t ∷ ts) = followed (Some (must open_list ∷ [])) (followed (comma_slots names an_argument (t ∷ ts)) (Some (must close_list ∷ [])))

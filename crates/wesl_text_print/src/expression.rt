@@ -1,12 +1,12 @@
 //! Printing expressions and types (WGSL, "Expressions", "Template Lists").
-ghost use Rattle.std.specs.Prelude.{◌≡◌, map, option_map};
+ghost use Rattle.std.specs.Prelude.{◌≡◌, map};
 ghost use Rattle.wesl_text_form.specs.Operators.{is_tight as is_tight_class, operator_class, primary, same_class, takes_left as takes_on_left, takes_right as takes_on_right};
 ghost use Rattle.wesl_text_form.specs.Productions.{a_call, a_literal, a_type, an_argument, an_expression};
-ghost use Rattle.wesl_text_form.specs.Spelling.{leaf_slots, trailing};
-ghost use Rattle.wesl_text_print.specs.Printing.{Prints, class_at_node, comma_unless, expression_slots, last_comma_unless, list_slots, literal_label, name_slots, only_if, path_and_name, path_slots, separate_in, slots_in};
-ghost use Rattle.wesl_tree_syntax.specs.Tree.{end, list, truth as truth_label};
+ghost use Rattle.wesl_text_form.specs.Spelling.{leaf_slots};
+ghost use Rattle.wesl_text_print.specs.Printing.{Prints, comma_slots, comma_unless, expression_slots, last_comma_unless, list_slots, literal_label, name_slots, operand_slots, path_and_name, path_slots, slots_in};
+ghost use Rattle.wesl_tree_syntax.specs.Tree.{end, truth as truth_label};
 ghost use Rattle.wesl_tree_syntax.specs.Unit.{name_in};
-ghost use Rattle.wesl_tree_syntax.specs.View.{argument_view, call_view, expression_tree, listed, type_view};
+ghost use Rattle.wesl_tree_syntax.specs.View.{argument_view, call_view, expression_tree, type_view};
 
 use crate::operand::{binary_symbol, is_primary, is_tight, takes_left, takes_right, unary_symbol};
 use crate::path::print_path;
@@ -63,7 +63,7 @@ pub fn print_expression<S: TokenSink>(out: &mut S, names: &Names, expression: &E
 // Prints what stands before `.` or `[`: no operation without parentheses.
 #[cycle(printing)]
 fn print_base<S: TokenSink>(out: &mut S, names: &Names, base: &Expression)
-    ensures { Prints S.after out.old out.new (only_if (same_class primary (class_at_node base.now)) (expression_slots names.now base.now)) }
+    ensures { Prints S.after out.old out.new (operand_slots (same_class primary) names.now base.now) }
 {
     if is_primary(base) {
         print_expression(out, names, base);
@@ -75,7 +75,7 @@ fn print_base<S: TokenSink>(out: &mut S, names: &Names, base: &Expression)
 // Prints the operand of a unary operator: no operation of a binary one without parentheses.
 #[cycle(printing)]
 fn print_operand<S: TokenSink>(out: &mut S, names: &Names, operand: &Expression)
-    ensures { Prints S.after out.old out.new (only_if (is_tight_class (class_at_node operand.now)) (expression_slots names.now operand.now)) }
+    ensures { Prints S.after out.old out.new (operand_slots is_tight_class names.now operand.now) }
 {
     if is_tight(operand) {
         print_expression(out, names, operand);
@@ -92,7 +92,7 @@ fn print_left<S: TokenSink>(
     operator: BinaryOperator,
     operand: &Expression,
 )
-    ensures { Prints S.after out.old out.new (only_if (takes_on_left (operator_class operator) (class_at_node operand.now)) (expression_slots names.now operand.now)) }
+    ensures { Prints S.after out.old out.new (operand_slots (takes_on_left (operator_class operator)) names.now operand.now) }
 {
     if takes_left(operator, operand) {
         print_expression(out, names, operand);
@@ -109,7 +109,7 @@ fn print_right<S: TokenSink>(
     operator: BinaryOperator,
     operand: &Expression,
 )
-    ensures { Prints S.after out.old out.new (only_if (takes_on_right (operator_class operator) (class_at_node operand.now)) (expression_slots names.now operand.now)) }
+    ensures { Prints S.after out.old out.new (operand_slots (takes_on_right (operator_class operator)) names.now operand.now) }
 {
     if takes_right(operator, operand) {
         print_expression(out, names, operand);
@@ -157,7 +157,7 @@ pub(crate) fn print_expressions<S: TokenSink>(
     names: &Names,
     nodes: &Vec<ExpressionNode>,
 )
-    ensures { Prints S.after out.old out.new (option_map trailing (separate_in names.now an_expression (listed expression_tree list nodes.now).children)) }
+    ensures { Prints S.after out.old out.new (comma_slots names.now an_expression (map expression_tree nodes.now.items)) }
 {
     let mut is_first = true;
     for node in nodes {
@@ -257,7 +257,7 @@ fn spelling<'a>(names: &'a Names, ident: Ident) -> &'a str
 // Prints the arguments of a template list, with commas between them.
 #[cycle(printing)]
 fn print_template_arguments<S: TokenSink>(out: &mut S, names: &Names, arguments: &Vec<TemplateArg>)
-    ensures { Prints S.after out.old out.new (option_map trailing (separate_in names.now an_argument (listed argument_view list arguments.now).children)) }
+    ensures { Prints S.after out.old out.new (comma_slots names.now an_argument (map argument_view arguments.now.items)) }
 {
     let mut is_first = true;
     for argument in arguments {

@@ -1,12 +1,11 @@
 //! Printing paths (WESL, "Imports").
 ghost use Rattle.std.specs.Prelude.{[], ◌∷◌, Some, false, map, string_bytes};
 ghost use Rattle.wesl_tree_base.specs.Pieces.{supers};
-ghost use Rattle.wesl_text_form.specs.Names.{are_names, is_name, is_origin};
-ghost use Rattle.wesl_text_form.specs.Spelling.{leaf_slots, origin_slots, provided, stepped};
-ghost use Rattle.wesl_text_form.specs.Productions.{a_path};
-ghost use Rattle.wesl_text_print.specs.Printing.{Prints};
+ghost use Rattle.wesl_text_form.specs.Spelling.{leaf_slots, stepped};
+ghost use Rattle.wesl_text_form.specs.Productions.{a_path, steps as some_steps};
+ghost use Rattle.wesl_text_print.specs.Printing.{Prints, beginning_slots};
 ghost use Rattle.wesl_tree_names.specs.Path.{from_package, origin_view, path_view, relative};
-ghost use Rattle.wesl_tree_syntax.specs.Tree.{end, path as path_label};
+ghost use Rattle.wesl_tree_syntax.specs.Tree.{end, path as path_label, texts};
 
 use crate::sink::TokenSink;
 use wesl_text_tokens::Symbol;
@@ -22,7 +21,7 @@ pub(crate) fn print_path<S: TokenSink>(out: &mut S, path: &ModulePath)
 
 // Prints where a path begins.
 fn print_origin<S: TokenSink>(out: &mut S, origin: &PathOrigin)
-    ensures { Prints S.after out.old out.new (provided (is_origin false (origin_view origin.now)) (origin_slots false (origin_view origin.now))) }
+    ensures { Prints S.after out.old out.new (beginning_slots (origin_view origin.now)) }
 {
     match origin {
         PathOrigin::Absolute => print_step(out, "package"),
@@ -41,7 +40,7 @@ fn print_step<S: TokenSink>(out: &mut S, word: &str)
 
 // Prints `self`, or `super` for each module above.
 fn print_relative<S: TokenSink>(out: &mut S, up: usize)
-    ensures { Prints S.after out.old out.new (Some (origin_slots false (relative up))) }
+    ensures { Prints S.after out.old out.new (beginning_slots (relative up)) }
 {
     if up == 0 {
         print_step(out, "self");
@@ -61,7 +60,7 @@ fn print_supers<S: TokenSink>(out: &mut S, up: usize)
 
 // Prints the name of a package with `::` behind it.
 fn print_package<S: TokenSink>(out: &mut S, name: &str)
-    ensures { Prints S.after out.old out.new (provided (is_name name.now) (origin_slots false (from_package name.now))) }
+    ensures { Prints S.after out.old out.new (beginning_slots (from_package name.now)) }
 {
     out.name(name);
     out.symbol(Symbol::ColonColon);
@@ -69,7 +68,7 @@ fn print_package<S: TokenSink>(out: &mut S, name: &str)
 
 /// Prints names, each with `::` behind it.
 pub(crate) fn print_steps<S: TokenSink>(out: &mut S, steps: &Vec<String>)
-    ensures { Prints S.after out.old out.new (provided (are_names (map string_bytes steps.now.items)) (stepped (map string_bytes steps.now.items))) }
+    ensures { Prints S.after out.old out.new (leaf_slots some_steps (texts (map string_bytes steps.now.items)) end) }
 {
     for step in steps {
         out.name(step.as_str());
