@@ -1,5 +1,5 @@
 -- What a sink is given by steps one after another.
-use Rattle.std.proofs.Common.{◌≡◌, List, [], ◌∷◌, ◌++◌, Bool, true, false, Option, Some, None, append-nil, append_assoc, true≢false, refl, sym, ap, ◌∙◌, subst}
+use Rattle.std.proofs.Common.{◌≡◌, List, [], ◌∷◌, Bool, true, false, Some, None, append-nil, append_assoc, true≢false, refl, sym, ap, subst}
 use Rattle.wesl_text_form.specs.Slots.{Slot}
 use Rattle.wesl_text_form.specs.Spelling.{Slots, followed, provided}
 use Rattle.wesl_text_print.specs.Printing.{Prints}

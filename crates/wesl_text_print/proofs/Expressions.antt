@@ -7,7 +7,7 @@ use Rattle.wesl_text_form.specs.Names.{is_name, is_number}
 use Rattle.wesl_text_form.specs.Operators.{Class, binary_symbol, class_of, is_tight, operator_class, primary, same_class, takes_left, takes_right, unary_symbol}
 use Rattle.wesl_text_form.specs.Productions.{a_bare_expression, a_call, a_literal, a_type, an_argument, an_expression}
 use Rattle.wesl_text_form.specs.Slots.{Slot, must}
-use Rattle.wesl_text_form.specs.Spelling.{Slots, class_at, followed, leaf_slots, named, provided, signed, trailing}
+use Rattle.wesl_text_form.specs.Spelling.{Slots, class_at, followed, leaf_slots, provided, signed, trailing}
 use Rattle.wesl_text_tokens.specs.Tokens.{number, open_list, close_list}
 use Rattle.wesl_text_print.specs.Printing.{class_at_node, expression_slots, list_slots, literal_label, name_slots, only_if, path_and_name, path_slots, separate_in, slots_in}
 use Rattle.wesl_text_print.proofs.Adding.{followed_twice, none_after, nothing_before, nothing_behind, provided_shows, shows, shows_before, shows_behind}
@@ -15,7 +15,7 @@ use Rattle.wesl_text_print.proofs.Views.{argument-parts, call-parts, type-parts,
 use Rattle.wesl_tree_names.specs.Path.{Text}
 use Rattle.wesl_tree_names.specs.declared.names.Ident.{Ident}
 use Rattle.wesl_tree_names.specs.declared.path.ModulePath.{ModulePath}
-use Rattle.wesl_tree_syntax.specs.Tree.{LabelOf, Tree, present, at, binary, branch, call_expression, end, ident, indexing, kind, list, literal, named_component, parenthesized, path, reference, respell_forest, respell_label, forest_of, space, access, assignment, text, texts, truth, type_expression, type_or_identifier, unary, call, template_argument}
+use Rattle.wesl_tree_syntax.specs.Tree.{LabelOf, Tree, present, at, binary, branch, end, ident, indexing, kind, list, literal, named_component, path, reference, respell_forest, respell_label, forest_of, space, access, assignment, text, texts, truth, type_expression, unary}
 use Rattle.wesl_tree_syntax.specs.Unit.{name_in}
 use Rattle.wesl_tree_syntax.specs.View.{argument_view, boxed_path, call_view, expression_tree, expression_view, ident_tree, listed, literal_tree, optional, text_tree, type_view, expression_step, call_step, argument_step, type_step}
 use Rattle.wesl_tree_syntax.specs.declared.span.Spanned.{Spanned}

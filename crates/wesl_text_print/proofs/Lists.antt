@@ -1,9 +1,9 @@
 -- Lists that are printed, item by item.
-use Rattle.std.proofs.Common.{◌≡◌, ℕ, Bool, true, false, ◌+◌, ◌<◌, ◌≤◌, List, [], ◌∷◌, ◌++◌, Option, Some, None, option_map, length, drop, get_or, map, true≢false, refl, sym, ap, ◌∙◌, arith}
+use Rattle.std.proofs.Common.{◌≡◌, ℕ, Bool, true, false, ◌+◌, ◌<◌, ◌≤◌, List, [], ◌∷◌, Some, None, option_map, length, drop, get_or, map, true≢false, refl, sym, ap, ◌∙◌, arith}
 use Rattle.std.proofs.lemmas.List.{drop_all, drop_more}
 use Rattle.wesl_text_tokens.specs.declared.symbol.Symbol.TheVariants as sign
 use Rattle.wesl_text_tokens.specs.Tokens.{symbol}
-use Rattle.wesl_text_form.specs.Slots.{Slot, may}
+use Rattle.wesl_text_form.specs.Slots.{may}
 use Rattle.wesl_text_form.specs.Productions.{Sort}
 use Rattle.wesl_text_form.specs.Spelling.{Slots, followed, signed, trailing}
 use Rattle.wesl_text_print.specs.Printing.{Prints, comma_unless, last_comma_unless, separate_in, slots_in}

@@ -1,5 +1,5 @@
 -- The slots of paths, in the order in which they are printed.
-use Rattle.std.proofs.Common.{◌≡◌, ℕ, zero, suc, ◌+◌, List, [], ◌∷◌, ◌++◌, Bool, true, false, ◌&&◌, Some, codes, map, String, Global, string_bytes, arith, refl, sym, ap, ◌∙◌}
+use Rattle.std.proofs.Common.{◌≡◌, ℕ, zero, suc, ◌+◌, List, [], ◌∷◌, ◌++◌, Bool, true, false, ◌&&◌, Some, codes, map, String, Global, string_bytes, arith, refl, ap, ◌∙◌}
 use Rattle.wesl_text_tokens.specs.declared.symbol.Symbol.TheVariants as sign
 use Rattle.wesl_text_form.specs.Names.{are_names, is_name, is_origin}
 use Rattle.wesl_text_form.specs.Productions.{a_path}

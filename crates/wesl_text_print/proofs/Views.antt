@@ -1,5 +1,5 @@
 -- The tree of each expression by its parts.
-use Rattle.std.proofs.Common.{◌≡◌, List, [], ◌∷◌, Option, Some, None, String, Vec, Global, string_bytes, refl, ◌∙◌, rules}
+use Rattle.std.proofs.Common.{◌≡◌, [], ◌∷◌, Option, Some, None, String, Vec, Global, refl, ◌∙◌, rules}
 use mathlib.Core.List.{map-map}
 use Rattle.std.specs.Box.{box_value}
 use Rattle.std.specs.Global.{Box}

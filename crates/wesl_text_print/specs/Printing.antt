@@ -18,7 +18,7 @@ use Rattle.wesl_text_print.specs.declared.operand.OperandClass.{OperandClass}
 use Rattle.wesl_text_print.specs.declared.operand.OperandClass.TheVariants as operand
 use Rattle.wesl_text_form.specs.Names.{is_name, is_origin}
 use Rattle.wesl_text_form.specs.Operators.{Class, class_of, operator_class, prefixed, primary}
-use Rattle.wesl_text_form.specs.Slots.{Slot, may, must}
+use Rattle.wesl_text_form.specs.Slots.{may, must}
 use Rattle.wesl_text_form.specs.Productions.{Sort, a_path, an_argument, an_expression}
 use Rattle.wesl_text_form.specs.Spelling.{Slots, followed, leaf_slots, named, origin_slots, provided, signed, slots_as, spells, trailing}
 

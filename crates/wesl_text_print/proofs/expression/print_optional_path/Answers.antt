@@ -1,5 +1,4 @@
 use Rattle.std.proofs.Common.{◌≡◌, Some, None, false, ap, rules, sym, ◌∙◌}
-use Rattle.std.specs.Box.{box_value}
 use Rattle.wesl_text_form.specs.Productions.{a_path}
 use Rattle.wesl_text_form.specs.Spelling.{leaf_slots}
 use Rattle.wesl_tree_names.specs.Path.{path_view}

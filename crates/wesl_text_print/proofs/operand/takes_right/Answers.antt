@@ -1,5 +1,5 @@
-use Rattle.std.proofs.Common.{◌≡◌, ap, rules, refl, sym, ◌∙◌}
-use Rattle.wesl_text_form.specs.Operators.{is_tight, operator_class, primary, same_class, takes_left, takes_right}
+use Rattle.std.proofs.Common.{◌≡◌, ap, rules, sym, ◌∙◌}
+use Rattle.wesl_text_form.specs.Operators.{operator_class, takes_right}
 use Rattle.wesl_text_print.specs.Printing.{class_by}
 use Rattle.wesl_text_print.specs.declared.operand.OperandClass.TheVariants as operand
 use Rattle.wesl_text_print.proofs.Operands.{prefixed_right, primary_right}
