@@ -1,5 +1,10 @@
 -- What tokens and pieces of the code say.
-use Rattle.std.specs.Prelude.{List, map}
+use Rattle.std.specs.Prelude.{ℕ, List, [], map, reverse, Option, Some, None}
+use Rattle.wesl_tree_names.specs.Path.{Text}
+use Rattle.wesl_text_tokens.specs.declared.symbol.Symbol.{Symbol}
+use Rattle.wesl_text_tokens.specs.declared.lists.Lists.{Lists}
+use Rattle.wesl_text_tokens.specs.declared.lists.Pending.{Pending}
+use Rattle.wesl_text_tokens.specs.Brackets.{Known}
 use Rattle.wesl_text_tokens.specs.declared.piece.What.{What as HeldWhat}
 use Rattle.wesl_text_tokens.specs.declared.piece.What.TheVariants as what
 use Rattle.wesl_text_tokens.specs.declared.piece.Piece.{Piece as HeldPiece}
@@ -34,3 +39,25 @@ token_of held.CloseList = close_list
 -- a token with its place
 abbrev pub placed_of : PlacedToken → Placed
 placed_of p = record { token = token_of p.token; start = p.start; finish = p.end }
+
+abbrev pub all_placed_of : List PlacedToken → List Placed
+all_placed_of ts = map placed_of ts
+
+-- the text of a sign that may be there
+abbrev pub sign_text : Option Symbol → Text
+sign_text None = []
+sign_text (Some s) = symbol_text s
+
+-- what is known of template lists
+abbrev pub pending_of : Pending → ℕ × ℕ
+pending_of p = (p.index, p.depth)
+
+abbrev pub known_of : Lists → Known
+known_of l = record {
+  pending = reverse (map pending_of l.pending.items);
+  depth = l.depth;
+  behind_name = l.behind_name;
+  is_passed = l.is_passed;
+  opened = reverse l.opened.items;
+  closed = reverse l.closed.items;
+}

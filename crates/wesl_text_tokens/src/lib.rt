@@ -4,14 +4,18 @@
 mod character;
 mod comment;
 mod fault;
+mod joining;
+mod lists;
 mod number;
 mod piece;
 mod reading;
 mod rows;
 mod symbol;
 mod token;
+mod tokens;
 
 pub use fault::TokenFault;
 pub use rows::rows_of_tokens;
 pub use symbol::Symbol;
 pub use token::{PlacedToken, Token};
+pub use tokens::read_tokens;

@@ -1,4 +1,4 @@
-use Rattle.std.proofs.Common.{ℕ, ◌≡◌, ◌≤◌, ◌<◌, length, sym, ◌∙◌, arith}
+use Rattle.std.proofs.Common.{◌≤◌, ◌<◌, length, sym, ◌∙◌, arith}
 use Rattle.wesl_text_tokens.specs.Pieces.{block_comment}
 use Rattle.wesl_text_tokens.proofs.Steps.{behind_at, comment_ends, comment_goes, end_at, nothing_before}
 use Rattle.wesl_text_tokens.proofs.comment.comment_end.Goals as goal

@@ -1,6 +1,5 @@
 use Rattle.std.proofs.Common.{◌≤◌, [], length, ap, sym, ◌∙◌, arith}
 use Rattle.wesl_text_tokens.specs.Pieces.{gap, line_comment, followed_by}
-use Rattle.wesl_text_tokens.specs.Reading.{read_at}
 use Rattle.wesl_text_tokens.proofs.Steps.{behind_at, end_at, line_ends, line_goes, nothing_before, on_by}
 use Rattle.wesl_text_tokens.proofs.comment.line_end.Goals as goal
 

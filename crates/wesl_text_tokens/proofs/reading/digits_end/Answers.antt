@@ -1,4 +1,4 @@
-use Rattle.std.proofs.Common.{sym, ◌∙◌, arith}
+use Rattle.std.proofs.Common.{◌∙◌, arith}
 use Rattle.wesl_text_tokens.proofs.Steps.{behind_at, number_goes}
 use Rattle.wesl_text_tokens.proofs.reading.digits_end.Goals as goal
 

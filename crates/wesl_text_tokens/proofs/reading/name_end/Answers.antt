@@ -1,4 +1,4 @@
-use Rattle.std.proofs.Common.{ℕ, ◌≡◌, ◌≤◌, ◌<◌, length, refl, sym, ◌∙◌, arith}
+use Rattle.std.proofs.Common.{◌≤◌, length, refl, sym, ◌∙◌, arith}
 use Rattle.std.specs.Prelude.{slice_range}
 use Rattle.wesl_text_tokens.specs.Pieces.{a_name, in_name}
 use Rattle.wesl_text_tokens.proofs.Steps.{behind_at, ended_at_end, name_ends, name_goes}

@@ -1,7 +1,6 @@
-use Rattle.std.proofs.Common.{◌≡◌, ◌≤◌, length, refl, ap, sym, ◌∙◌, subst, Bool, arith}
+use Rattle.std.proofs.Common.{◌≤◌, length, ap, sym, ◌∙◌, arith}
 use Rattle.std.specs.Prelude.{slice_range}
 use Rattle.wesl_text_tokens.specs.Pieces.{in_number}
-use Rattle.wesl_text_tokens.specs.Reading.{IsNumberItem}
 use Rattle.wesl_text_tokens.proofs.Steps.{number_ends, number_ends_text, number_found, number_or_fault}
 use Rattle.wesl_text_tokens.proofs.reading.number.Goals as goal
 

@@ -1,4 +1,4 @@
-use Rattle.std.proofs.Common.{◌≡◌, ◌≤◌, ◌-◌, length}
+use Rattle.std.proofs.Common.{◌≡◌, ◌-◌, length}
 use Rattle.std.specs.Str.{IsCharBoundary}
 use Rattle.wesl_text_tokens.specs.Pieces.{gap, followed_by}
 use Rattle.wesl_text_tokens.specs.Reading.{read_at}
