@@ -58,15 +58,15 @@ single_placed before mid xs i h d w t l e go =
     let one : Made = record { token = w; count = 1 } in
     let same : i + 1 - 1 ≡ i = omega arith in
     let over : placed_over w ps i (i + 1) (piece_of d) ≡ placed_of t =
-        over_here w xs i (i + 1) d (omega arith) (omega arith) ∙ ap (λ (n : ℕ). record { token = w; start = (get_or xs i d).start; finish = (get_or xs n d).end }) same ∙ sym e in
+    over_here w xs i (i + 1) d (omega arith) (omega arith) ∙ ap (λ (n : ℕ). record { token = w; start = (get_or xs i d).start; finish = (get_or xs n d).end }) same ∙ sym e in
     record {
       held = refl;
       done = λ ms.
-        ap (λ (ys : List Placed). ys ++ placed_from ms (drop (suc i) ps)) (map_push placed_of mid t ∙ ap (λ (p : Placed). all_placed_of mid ++ p ∷ []) (sym over))
-        ∙ ap (λ (n : ℕ). (all_placed_of mid ++ placed_over w ps i (i + 1) (piece_of d) ∷ []) ++ placed_from ms (drop n ps)) (sym (add-one i))
-        ∙ sym (placed_one (all_placed_of mid) w ms ps i (piece_of d) (omega (arith, length-map xs piece_of)))
-        ∙ go (one ∷ ms)
-        ∙ ap (λ (ys : List Made). before ++ placed_from ys (drop (first_held i h) ps)) (sym (append_assoc (let_go (held_at i h)) (one ∷ []) ms));
+          ap (λ (ys : List Placed). ys ++ placed_from ms (drop (suc i) ps)) (map_push placed_of mid t ∙ ap (λ (p : Placed). all_placed_of mid ++ p ∷ []) (sym over))
+          ∙ ap (λ (n : ℕ). (all_placed_of mid ++ placed_over w ps i (i + 1) (piece_of d) ∷ []) ++ placed_from ms (drop n ps)) (sym (add-one i))
+          ∙ sym (placed_one (all_placed_of mid) w ms ps i (piece_of d) (omega (arith, length-map xs piece_of)))
+          ∙ go (one ∷ ms)
+          ∙ ap (λ (ys : List Made). before ++ placed_from ys (drop (first_held i h) ps)) (sym (append_assoc (let_go (held_at i h)) (one ∷ []) ms));
     }
 
 -- what a piece does, by what it is

@@ -40,13 +40,22 @@ impl fmt::Display for TokenFault {
     fn fmt<W: fmt::Write>(&self, f: &mut fmt::Formatter<W>) -> fmt::Result {
         match self {
             TokenFault::Character { character, place } => {
-                write!(f, "no token begins with {character:?}, which stands at byte {place}")
+                write!(
+                    f,
+                    "no token begins with {character:?}, which stands at byte {place}"
+                )
             }
             TokenFault::Number { place } => {
-                write!(f, "what begins as a number at byte {place} is no number of WGSL")
+                write!(
+                    f,
+                    "what begins as a number at byte {place} is no number of WGSL"
+                )
             }
             TokenFault::Comment { place } => {
-                write!(f, "the comment that begins at byte {place} is not ended by `*/`")
+                write!(
+                    f,
+                    "the comment that begins at byte {place} is not ended by `*/`"
+                )
             }
             TokenFault::TooLong => write!(f, "a text of 2^32 bytes or more"),
             TokenFault::Memory => write!(f, "out of memory"),

@@ -135,18 +135,16 @@ fn join_sign<'a>(
         Some(after) => Ok(Some(after)),
         None => {
             release(tokens, held, pieces, index)?;
-            Ok(Some(Held { symbol, first: index }))
+            Ok(Some(Held {
+                symbol,
+                first: index,
+            }))
         }
     }
 }
 
 /// What is held with another sign, where that stands right behind it and both are a symbol.
-fn added(
-    held: Option<Held>,
-    pieces: &[Piece<'_>],
-    index: usize,
-    symbol: Symbol,
-) -> Option<Held>
+fn added(held: Option<Held>, pieces: &[Piece<'_>], index: usize, symbol: Symbol) -> Option<Held>
     requires within { index < length pieces.now }
     requires held { IsHeldBefore index held }
     ensures joins { is_some result ≡ joins (held_at index held) (symbol_text symbol) (bit_at (pieces_of pieces.now) index).is_glued }
@@ -161,7 +159,10 @@ fn added(
                 return None;
             }
             match joined(before.symbol, symbol) {
-                Some(both) => Some(Held { symbol: both, first: before.first }),
+                Some(both) => Some(Held {
+                    symbol: both,
+                    first: before.first,
+                }),
                 None => None,
             }
         }
