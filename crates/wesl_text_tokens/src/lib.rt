@@ -11,6 +11,8 @@ mod piece;
 mod reading;
 mod rows;
 mod symbol;
+#[cfg(test)]
+mod tests;
 mod token;
 mod tokens;
 
