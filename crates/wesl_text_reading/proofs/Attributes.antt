@@ -2,7 +2,7 @@
 use Rattle.std.proofs.Common.{◌≡◌, ◌⊎◌, ℕ, zero, suc, ◌==◌, Bool, true, false, not, ◌&&◌, ◌||◌, if◌then◌else◌, List, [], ◌∷◌, ◌++◌, map, length, Some, None, refl, sym as turned, inl, inr, ap, ◌∙◌, subst, codes, bytes_eq, eqb-true, arith}
 use Rattle.wesl_tree_base.specs.Pieces.{cut, before_first}
 use Rattle.wesl_tree_names.specs.Path.{Text}
-use Rattle.wesl_tree_syntax.specs.Tree.{Kind, kind, at, text, texts, end, tree, branch, present, absent, list, custom, workgroup_size}
+use Rattle.wesl_tree_syntax.specs.Tree.{Kind, kind, at, text, texts, end, tree, leaf as tree_leaf, branch, present, absent, list, custom, workgroup_size}
 use Rattle.wesl_text_tokens.specs.declared.symbol.Symbol.TheVariants as is
 use Rattle.wesl_text_tokens.specs.Symbols.{look_up}
 use Rattle.wesl_text_tokens.specs.Tokens.{Token, name, symbol, close_list}
@@ -66,7 +66,7 @@ no_period vs h = at (begins_sign is.Period vs) h where
   at false g = refl
 
 -- a word is read
-word_reads : (l : Label) (o : Forest) (ts vs : List Token) → fill (leaf_slots a_word l o) ts ≡ Some vs → read_leaf a_word ts ≡ Some (l, vs)
+pub word_reads : (l : Label) (o : Forest) (ts vs : List Token) → fill (leaf_slots a_word l o) ts ≡ Some vs → read_leaf a_word ts ≡ Some (l, vs)
 word_reads (text t) o ts vs h = ap (λ z. read_leaf a_word z) (stands (name t) ts vs (one (named t) ts vs (where_true (is_word t) (Some (named t ∷ [])) ts vs h).1))
 word_reads (kind k) o ts vs h = absurd (no_some vs h)
 word_reads l o ts vs h = absurd (no_some vs h)
@@ -92,7 +92,7 @@ unknown (p ∷ ps) t h = at (unknown ps t) (bytes_eq t p.0) h where
 -- ---- rules: one word, or two with `.` between
 
 -- texts with a byte between
-abbrev with_between : ℕ → List Text → Text
+abbrev pub with_between : ℕ → List Text → Text
 with_between c [] = []
 with_between c (t ∷ []) = t
 with_between c (t ∷ u ∷ us) = t ++ c ∷ with_between c (u ∷ us)
@@ -102,14 +102,14 @@ one_byte c x [] = refl
 one_byte c x (p ∷ []) = refl
 one_byte c x (p ∷ q ∷ ps) = refl
 
-cut_filled : (c : ℕ) (t : Text) → (p : Text) × (ps : List Text) × (cut c t ≡ p ∷ ps)
+pub cut_filled : (c : ℕ) (t : Text) → (p : Text) × (ps : List Text) × (cut c t ≡ p ∷ ps)
 cut_filled c [] = ([], [], refl)
 cut_filled c (x ∷ xs) = at (cut_filled c xs) (x == c) where
   at : ((p : Text) × (ps : List Text) × (cut c xs ≡ p ∷ ps)) → (b : Bool) → (p : Text) × (ps : List Text) × ((if b then [] ∷ cut c xs else before_first x (cut c xs)) ≡ p ∷ ps)
   at y true = ([], cut c xs, refl)
   at y false = (x ∷ y.0, y.1, ap (before_first x) y.2)
 
-between_again : (c : ℕ) (t : Text) → with_between c (cut c t) ≡ t
+pub between_again : (c : ℕ) (t : Text) → with_between c (cut c t) ≡ t
 between_again c [] = refl
 between_again c (x ∷ xs) = at (between_again c xs) (cut_filled c xs) (x == c) (eqb-true x c) where
   at : with_between c (cut c xs) ≡ xs → ((p : Text) × (ps : List Text) × (cut c xs ≡ p ∷ ps)) → (b : Bool) → (b ≡ true → x ≡ c) → with_between c (if b then [] ∷ cut c xs else before_first x (cut c xs)) ≡ x ∷ xs
@@ -120,7 +120,7 @@ rule_alone : (a : Text) (vs : List Token) → begins_sign is.Period vs ≡ false
 rule_alone a (symbol is.Period ∷ name u ∷ vs) h = absurd (no_true (turned h))
 rule_alone a vs h = refl
 
-too_many : (n : ℕ) → is_one_or_two (suc (suc (suc n))) ≡ true → ⊥
+pub too_many : (n : ℕ) → is_one_or_two (suc (suc (suc n))) ≡ true → ⊥
 too_many n h = at (suc (suc (suc n)) == 1) refl h where
   at : (b : Bool) → (suc (suc (suc n)) == 1) ≡ b → (b || (suc (suc (suc n)) == 2)) ≡ true → ⊥
   at true e g = let q : suc (suc (suc n)) ≡ 1 = eqb-true (suc (suc (suc n))) 1 e in let z : ⊥ = omega arith in z
@@ -198,6 +198,19 @@ closing_stays f vs us h = with_forest f h where
   with_forest : (f : Forest) → fill ((spells f).row closing_row) vs ≡ Some us → (begins_sign is.Comma vs && goes_on_behind (behind_first vs)) ≡ false
   with_forest end g = found end g
   with_forest (tree l c o) g = found (tree l c o) g
+
+-- whether the children of an attribute of another name have no operands among them
+abbrev pub lacks_operands : Forest → Bool
+lacks_operands (tree m below (tree (kind absent) end end)) = true
+lacks_operands _ = false
+
+abbrev pub is_open_custom : Label → Forest → Bool
+is_open_custom (kind custom) c = lacks_operands c
+is_open_custom _ c = false
+
+-- no `(` comes behind, or the attribute's own operands end it
+abbrev pub Parted : Label → Forest → List Token → Type 0
+Parted l c us = (begins_sign is.ParenLeft us ≡ false) ⊎ (is_open_custom l c ≡ false)
 
 module _ (child : Sort → Reader) (n : ℕ) where
   -- the label of an attribute by its word
@@ -340,7 +353,47 @@ module _ (child : Sort → Reader) (n : ℕ) where
         let z : (t : Text) × (is_among known_attributes t ≡ false) × (x.0 ≡ name t ∷ y.2) × (read_leaf a_custom x.0 ≡ Some (y.0, y.2)) = custom_reads y.0 y.1 x.0 y.2 y.3 in
         ap attribute_label (x.1 ∙ ap (λ s. symbol is.At ∷ s) z.2) ∙ ap (λ s. or_kind custom s) (unknown words_of_attributes z.0 z.1)
 
-    of_row : (k : Kind) (c : Forest) (r : Row) (ts us : List Token) → row_of {I = Text} a_bare_attribute (kind k) ≡ Some r → (fits (kind k) c && stands_as a_bare_attribute (kind k) c) ≡ true → fill ((spells c).row r) ts ≡ Some us → Within n c → NoOperands us
+    -- one with operands, whatever comes behind
+    abbrev operands_row : Row
+    operands_row = sym is.ParenLeft (commas list an_expression (sym is.ParenRight nothing))
+
+    operands_ok : RowOk child (read_part child) n Always operands_row
+    operands_ok = ((λ g ts vs h w rest. let x : (ws : List Token) × (vs ≡ symbol is.ParenRight ∷ ws) × (fill ((spells rest.0).row nothing) ws ≡ Some rest.1) = row_token rest.0 is.ParenRight nothing vs rest.1 rest.2 in list_of_expressions child n exprs g ts vs x.0 h w x.1), tt)
+
+    operands_read : (l : Label) (o : Forest) (ts us : List Token) → fill ((spells o).row (optional operands_row nothing)) ts ≡ Some us → Within n o → lacks_operands (tree l end o) ≡ false → read_row child (read_part child) (optional operands_row nothing) ts ≡ Some (o, us)
+    operands_read l end ts us h w f = absurd (no_some us h)
+    operands_read l (tree m d p) ts us h w f = at (chosen (is_kind absent (Some m) && is_end d) ((spells p).row nothing) (if is_kind present (Some m) then followed ((spells d).row operands_row) ((spells p).row nothing) else None) ts us h) where
+      at : (((is_kind absent (Some m) && is_end d) ≡ true) × (fill ((spells p).row nothing) ts ≡ Some us)) ⊎ (((is_kind absent (Some m) && is_end d) ≡ false) × (fill (if is_kind present (Some m) then followed ((spells d).row operands_row) ((spells p).row nothing) else None) ts ≡ Some us)) → read_row child (read_part child) (optional operands_row nothing) ts ≡ Some (tree m d p, us)
+      at (inl x) =
+          let y : (is_kind absent (Some m) ≡ true) × (is_end d ≡ true) = and_parts (is_kind absent (Some m)) (is_end d) x.0 in
+          let q : tree m d p ≡ tree (kind absent) end end = ap (λ z. tree z d p) (label_is absent m y.0) ∙ (ap (λ z. tree (kind absent) z p) (end_is d y.1) ∙ ap (λ z. tree (kind absent) end z) (nothing_left p ts us x.1).0) in
+          absurd (no_true (turned f ∙ ap (λ z. lacks_operands (tree l end z)) q))
+      at (inr x) =
+          let y : (is_kind present (Some m) ≡ true) × (fill (followed ((spells d).row operands_row) ((spells p).row nothing)) ts ≡ Some us) = where_true (is_kind present (Some m)) (followed ((spells d).row operands_row) ((spells p).row nothing)) ts us x.1 in
+          let z : (vs : List Token) × (fill ((spells d).row operands_row) ts ≡ Some vs) × (fill ((spells p).row nothing) vs ≡ Some us) = parts ((spells d).row operands_row) ((spells p).row nothing) ts us y.1 in
+          ap (λ b. elim b as (λ _. Read Forest) [
+            | false ↦ and_others (branch absent []) (read_row child (read_part child) nothing ts)
+            | true ↦ after (read_row child (read_part child) operands_row ts) (λ f us. and_others (node_of (kind present) f) (read_row child (read_part child) nothing us))
+          ]) (ap (λ a. begins_sign is.ParenLeft a) (row_token d is.ParenLeft (commas list an_expression (sym is.ParenRight nothing)) ts z.0 z.1).1)
+          ∙ (joined (λ f. node_of (kind present) f) (read_row child (read_part child) operands_row ts) d z.0 (read_row child (read_part child) nothing) p us
+          (row_reads child (read_part child) n d operands_row Always operands_ok ts z.0 z.1 (within_below m d p n w) tt)
+          (ap (λ a. Some (a, z.0)) (turned (nothing_left p z.0 us z.2).0) ∙ ap (λ a. Some (p, a)) (nothing_left p z.0 us z.2).1)
+          ∙ ap (λ a. Some (tree a d p, us)) (turned (label_is present m y.0)))
+
+    with_operands : (c : Forest) (ts us : List Token) → fill ((spells c).row custom_row) ts ≡ Some us → Within n c → lacks_operands c ≡ false → read_row child (read_part child) custom_row ts ≡ Some (c, us)
+    with_operands c ts us h w f =
+        let x : (vs : List Token) × (ts ≡ symbol is.At ∷ vs) × (fill ((spells c).row (leaf a_custom (optional operands_row nothing))) vs ≡ Some us) = row_token c is.At (leaf a_custom (optional operands_row nothing)) ts us h in
+        ap (λ s. read_row child (read_part child) custom_row s) x.1 ∙ by c x.0 x.2 w f where
+          by : (c : Forest) (vs : List Token) → fill ((spells c).row (leaf a_custom (optional operands_row nothing))) vs ≡ Some us → Within n c → lacks_operands c ≡ false → read_row child (read_part child) (leaf a_custom (optional operands_row nothing)) vs ≡ Some (c, us)
+          by end vs g w f = absurd (no_some us g)
+          by (tree l d o) vs g w f =
+              let y : (is_end d ≡ true) × (fill (followed (leaf_slots a_custom l o) ((spells o).row (optional operands_row nothing))) vs ≡ Some us) = where_true (is_end d) (followed (leaf_slots a_custom l o) ((spells o).row (optional operands_row nothing))) vs us g in
+              let z : (ws : List Token) × (fill (leaf_slots a_custom l o) vs ≡ Some ws) × (fill ((spells o).row (optional operands_row nothing)) ws ≡ Some us) = parts (leaf_slots a_custom l o) ((spells o).row (optional operands_row nothing)) vs us y.1 in
+              joined (λ t. tree_leaf t) (read_leaf a_custom vs) l z.0 (read_row child (read_part child) (optional operands_row nothing)) o us (custom_reads l o vs z.0 z.1).3
+              (operands_read l o z.0 us z.2 w.1 (ap (λ s. lacks_operands (tree l s o)) (turned (end_is d y.0)) ∙ f))
+              ∙ ap (λ s. Some (tree l s o, us)) (turned (end_is d y.0))
+
+    of_row : (k : Kind) (c : Forest) (r : Row) (ts us : List Token) → row_of {I = Text} a_bare_attribute (kind k) ≡ Some r → (fits (kind k) c && stands_as a_bare_attribute (kind k) c) ≡ true → fill ((spells c).row r) ts ≡ Some us → Within n c → Parted (kind k) c us
         → InRows rows_of_bare_attribute k r → node child a_bare_attribute ts ≡ Some (node_of (kind k) c, us)
     of_row k c r ts us o f h w e (inl q) = known_reads k (codes "const") nothing c r ts us (ap (λ z. Some (kind z)) (turned q.0)) q.1 o f h tt w
     of_row k c r ts us o f h w e (inr (inl q)) = known_reads k (codes "invariant") nothing c r ts us (ap (λ z. Some (kind z)) (turned q.0)) q.1 o f h tt w
@@ -366,16 +419,21 @@ module _ (child : Sort → Reader) (n : ℕ) where
         workgroup_reads c ts us (subst (λ z. (fits (kind z) c && stands_as a_bare_attribute (kind z) c) ≡ true) q.0 f) (subst (λ z. fill ((spells c).row z) ts ≡ Some us) (turned q.1) h) w ∙ ap (λ z. Some (node_of (kind z) c, us)) (turned q.0)
     of_row k c r ts us o f h w e (inr (inr (inr (inr (inr (inr (inr (inr (inr (inr (inr (inr (inr (inr (inr (inr (inr (inr (inr (inr (inr (inl q)))))))))))))))))))))) =
         let g : fill ((spells c).row custom_row) ts ≡ Some us = subst (λ z. fill ((spells c).row z) ts ≡ Some us) (turned q.1) h in
-        node_from child a_bare_attribute (kind k) c custom_row ts us (o ∙ ap (λ z. Some z) (turned q.1)) f (custom_label c ts us g ∙ ap (λ z. Some (kind z)) (turned q.0))
-        (row_reads child (read_part child) n c custom_row NoOperands custom_ok ts us g w e)
+        node_from child a_bare_attribute (kind k) c custom_row ts us (o ∙ ap (λ z. Some z) (turned q.1)) f (custom_label c ts us g ∙ ap (λ z. Some (kind z)) (turned q.0)) (by g e) where
+          by : fill ((spells c).row custom_row) ts ≡ Some us → Parted (kind k) c us → read_row child (read_part child) custom_row ts ≡ Some (c, us)
+          by g (inl d) = row_reads child (read_part child) n c custom_row NoOperands custom_ok ts us g w d
+          by g (inr d) = with_operands c ts us g w (ap (λ z. is_open_custom (kind z) c) (turned q.0) ∙ d)
     of_row k c r ts us o f h w e (inr (inr (inr (inr (inr (inr (inr (inr (inr (inr (inr (inr (inr (inr (inr (inr (inr (inr (inr (inr (inr (inr q)))))))))))))))))))))) = absurd q
 
     -- an attribute is read
-    pub attribute_reads : ReadsSort child n a_bare_attribute NoOperands (node child a_bare_attribute)
-    attribute_reads (kind k) c ts us h w e =
+    pub attribute_parted : (l : Label) (c : Forest) (ts us : List Token) → fill (first_slots l c (spells c) a_bare_attribute) ts ≡ Some us → Within n (tree l c end) → Parted l c us → node child a_bare_attribute ts ≡ Some (node_of l c, us)
+    attribute_parted (kind k) c ts us h w e =
         let x : (r : Row) × (row_of {I = Text} a_bare_attribute (kind k) ≡ Some r) × ((fits (kind k) c && stands_as a_bare_attribute (kind k) c) ≡ true) × (fill ((spells c).row r) ts ≡ Some us) = first_parts (kind k) c (spells c) a_bare_attribute ts us h in
         of_row k c x.0 ts us x.1 x.2 x.3 (within_below (kind k) c end n w) e (in_rows rows_of_bare_attribute k x.0 x.1)
-    attribute_reads (at k zero zero) c ts us h w e = absurd (no_some us h)
-    attribute_reads (at k zero (suc f)) c ts us h w e = absurd (no_some us h)
-    attribute_reads (at k (suc s) f) c ts us h w e = absurd (no_some us h)
-    attribute_reads l c ts us h w e = absurd (no_some us h)
+    attribute_parted (at k zero zero) c ts us h w e = absurd (no_some us h)
+    attribute_parted (at k zero (suc f)) c ts us h w e = absurd (no_some us h)
+    attribute_parted (at k (suc s) f) c ts us h w e = absurd (no_some us h)
+    attribute_parted l c ts us h w e = absurd (no_some us h)
+
+    pub attribute_reads : ReadsSort child n a_bare_attribute NoOperands (node child a_bare_attribute)
+    attribute_reads l c ts us h w e = attribute_parted l c ts us h w (inl e)

@@ -1,6 +1,6 @@
 -- Types, calls and the operands of expressions are read.
 use Rattle.std.proofs.Common.{◌≡◌, ◌⊎◌, zero, suc, Bool, true, false, ◌&&◌, ◌||◌, if◌then◌else◌, List, [], ◌∷◌, ◌++◌, Some, None, refl, sym as turned, inl, inr, ap, ◌∙◌, subst, codes, bytes_eq}
-use Rattle.wesl_tree_names.specs.Path.{Text}
+use Rattle.wesl_tree_names.specs.Path.{Text, Path, Origin, absolute, relative, from_package}
 use Rattle.wesl_tree_syntax.specs.Tree.{Kind, reference, kind, at, ident, text, truth, path, unary, binary, end, tree, literal, call, type_expression, template_argument, list, present, absent}
 use Rattle.wesl_tree_syntax.specs.Kinds.{same_kind, same_role}
 use Rattle.wesl_tree_syntax.specs.declared.expression.UnaryOperator.{UnaryOperator}
@@ -8,7 +8,7 @@ use Rattle.wesl_tree_syntax.specs.declared.expression.UnaryOperator.TheVariants 
 use Rattle.wesl_text_tokens.specs.declared.symbol.Symbol.TheVariants as is
 use Rattle.wesl_text_tokens.specs.Tokens.{Token, name, number, symbol, open_list, close_list}
 use Rattle.wesl_text_form.specs.Slots.{must, left}
-use Rattle.wesl_text_form.specs.Names.{is_name, is_word, is_free, is_number, is_path}
+use Rattle.wesl_text_form.specs.Names.{is_among, is_name, is_word, is_free, is_number, is_path, is_origin, are_names}
 use Rattle.wesl_text_form.specs.Operators.{unary_symbol, binary_symbol}
 use Rattle.wesl_text_form.specs.Productions.{Sort, an_expression, a_bare_expression, a_call, a_type, an_argument, Leaf, an_ident, a_name, a_literal, a_path, Row, Rows, nothing, sym, opens, closes, own, leaf, commas, optional, row_of, row_at, rows_of_bare_expression}
 use Rattle.wesl_text_form.specs.Spelling.{Label, Forest, Slots, spells, followed, named, leaf_slots, first_slots, below_first, fits, stands_as, is_end, is_kind, origin_slots, stepped}
@@ -135,15 +135,41 @@ argument_label l r h = absurd (no_some r h)
 
 -- ---- first tokens
 
+-- whether a word may begin an expression
+abbrev pub is_first_word : Text → Bool
+is_first_word t = is_free t || is_among (codes "true" ∷ codes "false" ∷ codes "package" ∷ codes "self" ∷ codes "super" ∷ []) t
+
+-- whether an operand begins: such a word, or what else begins an expression
+abbrev pub begins_operand : List Token → Bool
+begins_operand (name t ∷ ts) = is_first_word t
+begins_operand ts = begins_expression ts
+
+free_first : (t : Text) → is_free t ≡ true → is_first_word t ≡ true
+free_first t h = ap (λ b. b || is_among (codes "true" ∷ codes "false" ∷ codes "package" ∷ codes "self" ∷ codes "super" ∷ []) t) h
+
+operand_begins : (ts : List Token) → begins_operand ts ≡ true → begins_expression ts ≡ true
+operand_begins [] h = h
+operand_begins (name t ∷ ts) h = refl
+operand_begins (t ∷ ts) h = h
+
+-- the words of origins are such
+origin_first : (p : Path) → is_path false p ≡ true → is_first_word (origin_word p.origin) ≡ true
+origin_first p h = by p.origin (and_parts (is_origin false p.origin) (are_names p.components) h).0 where
+  by : (o : Origin) → is_origin false o ≡ true → is_first_word (origin_word o) ≡ true
+  by absolute g = refl
+  by (relative zero) g = refl
+  by (relative (suc n)) g = refl
+  by (from_package q) g = free_first q (and_parts (is_word q) (is_free q) g).1
+
 -- a word comes first, which is no literal
 abbrev pub BeginsType : List Token → Type 0
-BeginsType ts = (t : Text) × (vs : List Token) × (ts ≡ name t ∷ vs) × ((bytes_eq t (codes "true") || bytes_eq t (codes "false")) ≡ false)
+BeginsType ts = (t : Text) × (vs : List Token) × (ts ≡ name t ∷ vs) × ((bytes_eq t (codes "true") || bytes_eq t (codes "false")) ≡ false) × (is_first_word t ≡ true)
 
 pub path_begins_word : (l : Label) (o : Forest) (ts vs : List Token) → fill (leaf_slots (a_path false) l o) ts ≡ Some vs → BeginsType ts × (begins_path false ts ≡ true)
 path_begins_word (path p) o ts vs h =
     let x : (is_path false p ≡ true) × (fill (Some (origin_slots false p.origin ++ stepped p.components)) ts ≡ Some vs) = where_true (is_path false p) (Some (origin_slots false p.origin ++ stepped p.components)) ts vs h in
     let y : (us : List Token) × (ts ≡ name (origin_word p.origin) ∷ symbol is.ColonColon ∷ us) × (left (stepped (origin_rest p.origin ++ p.components)) us ≡ Some vs) = path_tokens p ts vs x.1 in
-    ((origin_word p.origin, symbol is.ColonColon ∷ y.0, y.1, no_literal p x.0), ap (λ z. begins_path false z) y.1)
+    ((origin_word p.origin, symbol is.ColonColon ∷ y.0, y.1, no_literal p x.0, origin_first p x.0), ap (λ z. begins_path false z) y.1)
 path_begins_word (kind k) o ts vs h = absurd (no_some vs h)
 path_begins_word l o ts vs h = absurd (no_some vs h)
 
@@ -157,7 +183,7 @@ type_begins l c ts us h =
           let y : (l : Label) × (o : Forest) × (vs : List Token) × (fill (leaf_slots (an_ident reference) l o) ts ≡ Some vs) × (fill ((spells o).row (optional (opens (commas list an_argument (closes nothing))) nothing)) vs ≡ Some us)
           = leaf_first x.0 (an_ident reference) (optional (opens (commas list an_argument (closes nothing))) nothing) ts us x.1 in
           let z : (t : Text) × (is_free t ≡ true) × (y.0 ≡ ident reference t) × (ts ≡ name t ∷ y.2) = ident_reads y.0 y.1 ts y.2 y.3 in
-          (z.0, y.2, z.3, free_no_literal z.0 z.1)
+          (z.0, y.2, z.3, free_no_literal z.0 z.1, free_first z.0 z.1)
       by (inr x) =
           let y : (l : Label) × (o : Forest) × (vs : List Token) × (fill (leaf_slots (a_path false) l o) ts ≡ Some vs) × (fill ((spells o).row nothing) vs ≡ Some x.2) = leaf_first x.0 (a_path false) nothing ts x.2 x.3 in
           (path_begins_word y.0 y.1 ts y.2 y.3).0
@@ -169,20 +195,20 @@ call_begins l c ts us h =
     = own_first c a_type (sym is.ParenLeft (commas list an_expression (sym is.ParenRight nothing))) ts us (subst (λ z. fill ((spells c).row z) ts ≡ Some us) (turned (call_label l x.0 x.1).1) x.3) in
     type_begins y.0 y.1 ts y.3 y.5
 
-word_begins : (ts : List Token) → BeginsType ts → begins_expression ts ≡ true
-word_begins ts b = ap begins_expression b.2
+word_begins : (ts : List Token) → BeginsType ts → begins_operand ts ≡ true
+word_begins ts b = ap begins_operand b.2 ∙ b.4
 
 abbrev pub Begins : Forest → Type 0
-Begins c = (ts us : List Token) → fill ((spells c).row (own a_bare_expression nothing)) ts ≡ Some us → begins_expression ts ≡ true
+Begins c = (ts us : List Token) → fill ((spells c).row (own a_bare_expression nothing)) ts ≡ Some us → begins_operand ts ≡ true
 
 -- an expression that comes first, by what it begins with
-expression_first : (f : Forest) (row : Row) → Begins (below_first f) → (ts us : List Token) → fill ((spells f).row (own an_expression row)) ts ≡ Some us → begins_expression ts ≡ true
+expression_first : (f : Forest) (row : Row) → Begins (below_first f) → (ts us : List Token) → fill ((spells f).row (own an_expression row)) ts ≡ Some us → begins_operand ts ≡ true
 expression_first end row b ts us h = absurd (no_some us h)
 expression_first (tree l c o) row b ts us h =
     let z : (vs : List Token) × (fill (first_slots l c (spells c) an_expression) ts ≡ Some vs) × (fill ((spells o).row row) vs ≡ Some us) = parts (first_slots l c (spells c) an_expression) ((spells o).row row) ts us h in
     b ts z.0 (expression_parts l c ts z.0 z.1).1
 
-unary_begins : (o : UnaryOperator) (us : List Token) → begins_expression (symbol (unary_symbol o) ∷ us) ≡ true
+unary_begins : (o : UnaryOperator) (us : List Token) → begins_operand (symbol (unary_symbol o) ∷ us) ≡ true
 unary_begins unary_operator.LogicalNegation us = refl
 unary_begins unary_operator.Negation us = refl
 unary_begins unary_operator.BitwiseComplement us = refl
@@ -202,12 +228,19 @@ literal_token (text t) o ts vs h =
 literal_token (kind k) o ts vs h = absurd (no_some vs h)
 literal_token l o ts vs h = absurd (no_some vs h)
 
-kind_begins : (k : Kind) (d : Forest) → Begins (below_first d) → (r : Row) → InRows rows_of_bare_expression k r → (ts vs : List Token) → fill ((spells d).row r) ts ≡ Some vs → begins_expression ts ≡ true
+literal_first : (l : Label) (o : Forest) (ts vs : List Token) → fill (leaf_slots a_literal l o) ts ≡ Some vs → begins_operand ts ≡ true
+literal_first (truth true) o ts vs h = ap begins_operand (stands (name (codes "true")) ts vs (one (named (codes "true")) ts vs h))
+literal_first (truth false) o ts vs h = ap begins_operand (stands (name (codes "false")) ts vs (one (named (codes "false")) ts vs h))
+literal_first (text t) o ts vs h = ap begins_operand (stands (number t) ts vs (one (must (number t)) ts vs (where_true (is_number t) (Some (must (number t) ∷ [])) ts vs h).1))
+literal_first (kind k) o ts vs h = absurd (no_some vs h)
+literal_first l o ts vs h = absurd (no_some vs h)
+
+kind_begins : (k : Kind) (d : Forest) → Begins (below_first d) → (r : Row) → InRows rows_of_bare_expression k r → (ts vs : List Token) → fill ((spells d).row r) ts ≡ Some vs → begins_operand ts ≡ true
 kind_begins k d b r (inl x) ts vs h =
     let y : (l : Label) × (o : Forest) × (us : List Token) × (fill (leaf_slots a_literal l o) ts ≡ Some us) × (fill ((spells o).row nothing) us ≡ Some vs) = leaf_first d a_literal nothing ts vs (subst (λ z. fill ((spells d).row z) ts ≡ Some vs) (turned x.1) h) in
-    (literal_token y.0 y.1 ts y.2 y.3).0
+    literal_first y.0 y.1 ts y.2 y.3
 kind_begins k d b r (inr (inl x)) ts vs h =
-    ap begins_expression (row_token d is.ParenLeft (own an_expression (sym is.ParenRight nothing)) ts vs (subst (λ z. fill ((spells d).row z) ts ≡ Some vs) (turned x.1) h)).1
+    ap begins_operand (row_token d is.ParenLeft (own an_expression (sym is.ParenRight nothing)) ts vs (subst (λ z. fill ((spells d).row z) ts ≡ Some vs) (turned x.1) h)).1
 kind_begins k d b r (inr (inr (inl x))) ts vs h = expression_first d (sym is.Period (leaf a_name nothing)) b ts vs (subst (λ z. fill ((spells d).row z) ts ≡ Some vs) (turned x.1) h)
 kind_begins k d b r (inr (inr (inr (inl x)))) ts vs h = expression_first d (sym is.BracketLeft (own an_expression (sym is.BracketRight nothing))) b ts vs (subst (λ z. fill ((spells d).row z) ts ≡ Some vs) (turned x.1) h)
 kind_begins k d b r (inr (inr (inr (inr (inl x))))) ts vs h =
@@ -218,13 +251,13 @@ kind_begins k d b r (inr (inr (inr (inr (inr (inl x)))))) ts vs h =
     word_begins ts (type_begins y.0 y.1 ts y.3 y.5)
 kind_begins k d b r (inr (inr (inr (inr (inr (inr x)))))) ts vs h = absurd x
 
-bare_begins : (b : Label) (d : Forest) → Begins (below_first d) → (ts vs : List Token) → fill (first_slots b d (spells d) a_bare_expression) ts ≡ Some vs → begins_expression ts ≡ true
+bare_begins : (b : Label) (d : Forest) → Begins (below_first d) → (ts vs : List Token) → fill (first_slots b d (spells d) a_bare_expression) ts ≡ Some vs → begins_operand ts ≡ true
 bare_begins b d first ts vs h = let x : (r : Row) × (row_of a_bare_expression b ≡ Some r) × ((fits b d && stands_as a_bare_expression b d) ≡ true) × (fill ((spells d).row r) ts ≡ Some vs) = first_parts b d (spells d) a_bare_expression ts vs h in by b x.0 x.1 x.3 where
-  by : (b : Label) (r : Row) → row_of a_bare_expression b ≡ Some r → fill ((spells d).row r) ts ≡ Some vs → begins_expression ts ≡ true
+  by : (b : Label) (r : Row) → row_of a_bare_expression b ≡ Some r → fill ((spells d).row r) ts ≡ Some vs → begins_operand ts ≡ true
   by (kind k) r e g = kind_begins k d first r (in_rows rows_of_bare_expression k r e) ts vs g
   by (unary o) r e g =
       let y : (us : List Token) × (ts ≡ symbol (unary_symbol o) ∷ us) × (fill ((spells d).row (own an_expression nothing)) us ≡ Some vs) = row_token d (unary_symbol o) (own an_expression nothing) ts vs (subst (λ z. fill ((spells d).row z) ts ≡ Some vs) (turned (of_some (sym (unary_symbol o) (own an_expression nothing)) r e)) g) in
-      ap begins_expression y.1 ∙ unary_begins o y.0
+      ap begins_operand y.1 ∙ unary_begins o y.0
   by (binary o) r e g = expression_first d (sym (binary_symbol o) (own an_expression nothing)) first ts vs (subst (λ z. fill ((spells d).row z) ts ≡ Some vs) (turned (of_some (own an_expression (sym (binary_symbol o) (own an_expression nothing))) r e)) g)
   by (at k zero zero) r e g = absurd (no_some r e)
   by (at k zero (suc f)) r e g = absurd (no_some r e)
@@ -241,5 +274,8 @@ expression_begins (tree b (tree l c o) x) ts us h =
     bare_begins b (tree l c o) (expression_begins c) ts z.0 z.1
 
 -- an expression begins with a token that begins one
+pub operand_first : (l : Label) (c : Forest) (ts us : List Token) → fill (first_slots l c (spells c) an_expression) ts ≡ Some us → begins_operand ts ≡ true
+operand_first l c ts us h = expression_begins c ts us (expression_parts l c ts us h).1
+
 pub begins_one : (l : Label) (c : Forest) (ts us : List Token) → fill (first_slots l c (spells c) an_expression) ts ≡ Some us → begins_expression ts ≡ true
-begins_one l c ts us h = expression_begins c ts us (expression_parts l c ts us h).1
+begins_one l c ts us h = operand_begins ts (operand_first l c ts us h)

@@ -3,13 +3,18 @@ use Rattle.std.proofs.Common.{◌≤◌, ℕ, zero, suc, max, Bool, true, false,
 use native.Mathlib.Nat.{le-max_left, le-max_right}
 use Rattle.wesl_tree_names.specs.Path.{Text}
 use Rattle.wesl_tree_syntax.specs.Tree.{TreeOf, end, tree, before}
-use Rattle.wesl_text_form.specs.Productions.{Sort, an_expression, a_type, a_call, an_attribute, a_parameter, a_member}
+use Rattle.wesl_text_form.specs.Productions.{Sort, a_selector, a_break_if, an_import, an_entry, a_content, a_directive, a_kind, a_space, an_access, an_expression, a_type, a_call, an_attribute, a_parameter, a_member}
 use Rattle.wesl_text_form.specs.Spelling.{Forest}
 use Rattle.wesl_text_form.specs.Says.{levels, is_level}
 use Rattle.wesl_text_reading.specs.Laws.{AreRead, OneTextOneTree}
 use Rattle.wesl_text_reading.proofs.Filled.{fill}
 use Rattle.wesl_text_reading.proofs.Within.{Within, Under}
 use Rattle.wesl_text_reading.proofs.Runs.{attribute_reads_at, parameter_reads_at, member_reads_at}
+use Rattle.wesl_text_reading.proofs.KindsRead.{kind_reads_at, space_reads_at, access_reads_at}
+use Rattle.wesl_text_reading.proofs.Directives.{directive_reads_at}
+use Rattle.wesl_text_reading.proofs.Imports.{import_reads_at, entry_reads_at, content_reads_at}
+use Rattle.wesl_text_reading.proofs.Blocks.{break_if_reads_at}
+use Rattle.wesl_text_reading.proofs.Selectors.{selector_reads_at}
 use Rattle.wesl_text_reading.proofs.Complete.{expression_reads, type_reads_at, call_reads_at}
 
 -- trees are within as many levels as they have
@@ -42,6 +47,33 @@ parameters_are_read n ts t s h = parameter_reads_at n t.label t.children ts [] (
 
 pub members_are_read : AreRead a_member
 members_are_read n ts t s h = member_reads_at n t.label t.children ts [] (ap (λ z. fill z ts) s.1 ∙ s.2) (levels_within (before t end) n h) (refl, refl)
+
+pub access_modes_are_read : AreRead an_access
+access_modes_are_read n ts t s h = access_reads_at n t.label t.children ts [] (ap (λ z. fill z ts) s.1 ∙ s.2) (levels_within (before t end) n h) tt
+
+pub spaces_are_read : AreRead a_space
+spaces_are_read n ts t s h = space_reads_at n t.label t.children ts [] (ap (λ z. fill z ts) s.1 ∙ s.2) (levels_within (before t end) n h) refl
+
+pub kinds_are_read : AreRead a_kind
+kinds_are_read n ts t s h = kind_reads_at n t.label t.children ts [] (ap (λ z. fill z ts) s.1 ∙ s.2) (levels_within (before t end) n h) refl
+
+pub directives_are_read : AreRead a_directive
+directives_are_read n ts t s h = directive_reads_at n t.label t.children ts [] (ap (λ z. fill z ts) s.1 ∙ s.2) (levels_within (before t end) n h) tt
+
+pub import_contents_are_read : AreRead a_content
+import_contents_are_read n ts t s h = content_reads_at n t.label t.children ts [] (ap (λ z. fill z ts) s.1 ∙ s.2) (levels_within (before t end) n h) (refl, refl, refl)
+
+pub import_entries_are_read : AreRead an_entry
+import_entries_are_read n ts t s h = entry_reads_at n t.label t.children ts [] (ap (λ z. fill z ts) s.1 ∙ s.2) (levels_within (before t end) n h) (refl, refl, refl)
+
+pub imports_are_read : AreRead an_import
+imports_are_read n ts t s h = import_reads_at n t.label t.children ts [] (ap (λ z. fill z ts) s.1 ∙ s.2) (levels_within (before t end) n h) tt
+
+pub break_ifs_are_read : AreRead a_break_if
+break_ifs_are_read n ts t s h = break_if_reads_at n t.label t.children ts [] (ap (λ z. fill z ts) s.1 ∙ s.2) (levels_within (before t end) n h) tt
+
+pub selectors_are_read : AreRead a_selector
+selectors_are_read n ts t s h = selector_reads_at n t.label t.children ts [] (ap (λ z. fill z ts) s.1 ∙ s.2) (levels_within (before t end) n h) (refl, ((refl, refl), refl), refl)
 
 -- what is read is one
 pub one_tree : (s : Sort) → AreRead s → OneTextOneTree s

@@ -1,15 +1,17 @@
 -- A row is read where each of its parts is.
-use Rattle.std.proofs.Common.{◌≡◌, ◌⊎◌, ℕ, Bool, true, false, not, ◌&&◌, if◌then◌else◌, List, [], ◌∷◌, length, Some, None, option_and_then, option_map, refl, sym as turned, inl, inr, ap, ◌∙◌, codes}
+use Rattle.std.proofs.Common.{◌≡◌, ◌⊎◌, ℕ, Bool, true, false, not, ◌&&◌, if◌then◌else◌, List, [], ◌∷◌, length, Some, None, option_and_then, option_map, refl, sym as turned, inl, inr, ap, ◌∙◌, subst, codes}
 use Rattle.wesl_tree_names.specs.Path.{Text}
 use Rattle.wesl_tree_syntax.specs.Tree.{kind, end, tree, TreeOf, before, leaf as tree_leaf, branch, present, absent, list}
+use Rattle.wesl_text_tokens.specs.declared.symbol.Symbol.TheVariants as is
 use Rattle.wesl_text_tokens.specs.Tokens.{Token, name, symbol, open_list, close_list}
 use Rattle.wesl_text_form.specs.Slots.{must, may, alone, behind_token, behind_if_there}
 use Rattle.wesl_text_form.specs.Productions.{Sort, a_selector, an_expression, Row, nothing, sym, may_sym, says, opens, closes, own, leaf, run, commas, optional, inside, target, selectors, unended, arrow}
 use Rattle.wesl_text_form.specs.Operators.{class_of, is_tight}
-use Rattle.wesl_text_form.specs.Spelling.{Label, Forest, Slots, spells, followed, named, trailing, leaf_slots, first_slots, row_slots, row_of_none, label_at, is_end, is_kind, is_wildcard, leads_to_place, is_lone_default, without_last}
-use Rattle.wesl_text_reading.specs.Leaves.{Read, after, read_leaf}
+use Rattle.wesl_text_form.specs.Spelling.{Label, Forest, Slots, spells, followed, named, signed, is_absent_at, trailing, leaf_slots, first_slots, row_slots, row_of_none, label_at, is_end, is_kind, is_wildcard, leads_to_place, is_lone_default, without_last}
+use Rattle.wesl_text_reading.specs.Leaves.{Read, after, where_so, read_leaf}
+use Rattle.wesl_text_reading.specs.FirstTokens.{begins_sign, behind_first}
 use Rattle.wesl_text_reading.specs.Reading.{Reader, node_of, and_others, all_of, separate_of, begins_child, begins_row, read_target, read_selectors, read_row}
-use Rattle.wesl_text_reading.proofs.Filled.{no_some, of_some, fill, parts, both, one}
+use Rattle.wesl_text_reading.proofs.Filled.{no_some, of_some, fill, parts, both, one, stands}
 use Rattle.wesl_text_reading.proofs.Takes.{and_parts, chosen, where_true}
 use Rattle.wesl_text_reading.proofs.KindsAgain.{label_is, end_is}
 use Rattle.wesl_text_reading.proofs.Within.{Within, within_below}
@@ -46,10 +48,11 @@ module _ (child part : Sort → Reader) (n : ℕ) where
   RowOk C (optional ins row) = ((vs : List Token) → Rest C row vs → begins_row child ins vs ≡ false)
       × ((f : Forest) (ts vs : List Token) → fill ((spells f).row ins) ts ≡ Some vs → Within n f → Rest C row vs → begins_row child ins ts ≡ true)
       × RowOk (Rest C row) ins × RowOk C row
-  RowOk C (inside k ins row) = RowOk (Rest C row) ins × RowOk C row
+  RowOk C (inside k ins row) = ((c : Forest) (ts vs : List Token) → fill ((spells c).row ins) ts ≡ Some vs → Within n (tree (kind k) c end) → Rest C row vs → read_row child part ins ts ≡ Some (c, vs)) × RowOk C row
   RowOk C (target row) = ((l : Label) (c : Forest) (ts vs : List Token) → fill (target_slots l c) ts ≡ Some vs → Within n (tree l c end) → Rest C row vs → read_target child ts ≡ Some (node_of l c, vs)) × RowOk C row
   RowOk C (selectors row) = ((c : Forest) (ts vs : List Token) → fill (selector_slots c) ts ≡ Some vs → Within n c → Rest C row vs → read_selectors child ts ≡ Some (c, vs)) × RowOk C row
   RowOk C (unended s row) = ((l : Label) (c : Forest) (ts vs : List Token) → fill (option_map without_last (first_slots l c (spells c) s)) ts ≡ Some vs → Within n (tree l c end) → Rest C row vs → part s ts ≡ Some (node_of l c, vs)) × RowOk C row
+  RowOk C (arrow (run k s row)) = ((vs : List Token) → Rest C row vs → begins_sign is.Arrow vs ≡ false) × RowOk C (run k s row)
   RowOk C (arrow row) = ⊥
 
   -- what is promised of the reading of rows
@@ -124,7 +127,7 @@ module _ (child part : Sort → Reader) (n : ℕ) where
         let y : (is_kind k (Some l) ≡ true) × (fill (followed ((spells c).row ins) ((spells o).row row)) ts ≡ Some us) = where_true (is_kind k (Some l)) (followed ((spells c).row ins) ((spells o).row row)) ts us h in
         let x : (vs : List Token) × (fill ((spells c).row ins) ts ≡ Some vs) × (fill ((spells o).row row) vs ≡ Some us) = parts ((spells c).row ins) ((spells o).row row) ts us y.1 in
         joined (λ f. node_of (kind k) f) (read_row child part ins ts) c x.0 (read_row child part row) o us
-        (below ins (Rest C row) ok.0 ts x.0 x.1 (within_below l c o n w) (o, us, x.2, w.1, cu)) (later row C ok.1 x.0 us x.2 w.1 cu)
+        (ok.0 c ts x.0 x.1 (subst (λ z. Within n (tree z c end)) (label_is k l y.0) (w.0, tt)) (o, us, x.2, w.1, cu)) (later row C ok.1 x.0 us x.2 w.1 cu)
         ∙ ap (λ z. Some (tree z c o, us)) (turned (label_is k l y.0))
     tree_reads (target row) C ok ts us h w cu =
         let x : (vs : List Token) × (fill (target_slots l c) ts ≡ Some vs) × (fill ((spells o).row row) vs ≡ Some us) = parts (target_slots l c) ((spells o).row row) ts us (as_one (is_wildcard l c) (is_tight (class_of (label_at 0 c)) && leads_to_place c) h) in
@@ -151,6 +154,27 @@ module _ (child part : Sort → Reader) (n : ℕ) where
     tree_reads (unended s row) C ok ts us h w cu =
         let x : (vs : List Token) × (fill (option_map without_last (first_slots l c (spells c) s)) ts ≡ Some vs) × (fill ((spells o).row row) vs ≡ Some us) = parts (option_map without_last (first_slots l c (spells c) s)) ((spells o).row row) ts us h in
         joined (λ t. t) (part s ts) (node_of l c) x.0 (read_row child part row) o us (ok.0 l c ts x.0 x.1 (w.0, tt) (o, us, x.2, w.1, cu)) (later row C ok.1 x.0 us x.2 w.1 cu)
+    tree_reads (arrow (run k s row)) C ok ts us h w cu = at (λ vs g. tree_reads (run k s row) C ok.1 vs us g w cu) (chosen (is_absent_at 0 o) (if is_end c then row_slots l c o (spells c) (spells o) (run k s row) else None) (followed (Some (signed is.Arrow ∷ [])) (row_slots l c o (spells c) (spells o) (run k s row))) ts us h) where
+      at : ((vs : List Token) → fill (row_slots l c o (spells c) (spells o) (run k s row)) vs ≡ Some us → read_row child part (run k s row) vs ≡ Some (tree l c o, us)) → ((is_absent_at 0 o ≡ true) × (fill (if is_end c then row_slots l c o (spells c) (spells o) (run k s row) else None) ts ≡ Some us)) ⊎ ((is_absent_at 0 o ≡ false) × (fill (followed (Some (signed is.Arrow ∷ [])) (row_slots l c o (spells c) (spells o) (run k s row))) ts ≡ Some us)) → read_row child part (arrow (run k s row)) ts ≡ Some (tree l c o, us)
+      at run_reads (inl x) =
+          let y : (is_end c ≡ true) × (fill (row_slots l c o (spells c) (spells o) (run k s row)) ts ≡ Some us) = where_true (is_end c) (row_slots l c o (spells c) (spells o) (run k s row)) ts us x.1 in
+          let z : (is_kind k (Some l) ≡ true) × (fill (followed ((spells c).all s) ((spells o).row row)) ts ≡ Some us) = where_true (is_kind k (Some l)) (followed ((spells c).all s) ((spells o).row row)) ts us y.1 in
+          let p : (vs : List Token) × (fill ((spells c).all s) ts ≡ Some vs) × (fill ((spells o).row row) vs ≡ Some us) = parts ((spells c).all s) ((spells o).row row) ts us z.1 in
+          let q : ts ≡ p.0 = of_some ts p.0 (ap (λ a. fill ((spells a).all s) ts) (turned (end_is c y.0)) ∙ p.1) in
+          let g : fill ((spells o).row row) ts ≡ Some us = ap (λ a. fill ((spells o).row row) a) q ∙ p.2 in
+          ap (λ b. elim b as (λ _. Read Forest) [
+            | false ↦ after (read_row child part row ts) (λ f us. where_so (is_absent_at 0 f) (before (branch k []) f) us)
+            | true ↦ after (read_row child part (run k s row) (behind_first ts)) (λ f us. where_so (not (is_absent_at 1 f)) f us)
+          ]) (ok.0 ts (o, us, g, w.1, cu))
+          ∙ (ap (λ a. after a (λ f us. where_so (is_absent_at 0 f) (before (branch k []) f) us)) (later row C ok.1.1 ts us g w.1 cu)
+          ∙ (ap (λ b. if b then Some (tree (kind k) end o, us) else None) x.0
+          ∙ (ap (λ a. Some (tree a end o, us)) (turned (label_is k l z.0)) ∙ ap (λ a. Some (tree l a o, us)) (turned (end_is c y.0)))))
+      at run_reads (inr x) =
+          let p : (vs : List Token) × (fill (Some (signed is.Arrow ∷ [])) ts ≡ Some vs) × (fill (row_slots l c o (spells c) (spells o) (run k s row)) vs ≡ Some us) = parts (Some (signed is.Arrow ∷ [])) (row_slots l c o (spells c) (spells o) (run k s row)) ts us x.1 in
+          let q : ts ≡ symbol is.Arrow ∷ p.0 = stands (symbol is.Arrow) ts p.0 (one (signed is.Arrow) ts p.0 p.1) in
+          ap (λ a. read_row child part (arrow (run k s row)) a) q
+          ∙ (ap (λ a. after a (λ f us. where_so (not (is_absent_at 1 f)) f us)) (run_reads p.0 p.2)
+          ∙ ap (λ b. if not b then Some (tree l c o, us) else None) x.0)
     tree_reads (arrow row) C ok ts us h w cu = absurd ok
 
   -- a row is read where each of its parts is

@@ -27,7 +27,7 @@ abbrev pub Unopened : List Token → Type 0
 Unopened us = begins_sign is.ParenLeft us ≡ false
 
 -- the label of an attribute with its span
-attribute_is : (l : Label) (r : Row) → row_of an_attribute l ≡ Some r → (l ≡ at attribute_node 0 0) × (own a_bare_attribute nothing ≡ r)
+pub attribute_is : (l : Label) (r : Row) → row_of an_attribute l ≡ Some r → (l ≡ at attribute_node 0 0) × (own a_bare_attribute nothing ≡ r)
 attribute_is (at k zero zero) r h = by (same_kind attribute_node k) refl h where
   by : (b : Bool) → same_kind attribute_node k ≡ b → (if b then Some (own a_bare_attribute nothing) else None) ≡ Some r → ((let l : Label = at k 0 0 in l) ≡ at attribute_node 0 0) × (own a_bare_attribute nothing ≡ r)
   by true e g = (ap (λ z. let l : Label = at z 0 0 in l) (turned (kind_is attribute_node k e)), of_some (own a_bare_attribute nothing) r g)
@@ -54,7 +54,7 @@ bare_at (at k zero (suc f)) c ts us h = absurd (no_some us h)
 bare_at (at k (suc s) f) c ts us h = absurd (no_some us h)
 bare_at l c ts us h = absurd (no_some us h)
 
-attribute_at : (l : Label) (c : Forest) (ts us : List Token) → fill (first_slots l c (spells c) an_attribute) ts ≡ Some us → (vs : List Token) × (ts ≡ symbol is.At ∷ vs)
+pub attribute_at : (l : Label) (c : Forest) (ts us : List Token) → fill (first_slots l c (spells c) an_attribute) ts ≡ Some us → (vs : List Token) × (ts ≡ symbol is.At ∷ vs)
 attribute_at l c ts us h =
     let x : (r : Row) × (row_of an_attribute l ≡ Some r) × ((fits l c && stands_as an_attribute l c) ≡ true) × (fill ((spells c).row r) ts ≡ Some us) = first_parts l c (spells c) an_attribute ts us h in
     let y : (j : Label) × (d : Forest) × (o : Forest) × (vs : List Token) × (c ≡ tree j d o) × (fill (first_slots j d (spells d) a_bare_attribute) ts ≡ Some vs) × (fill ((spells o).row nothing) vs ≡ Some us)
@@ -71,6 +71,27 @@ module _ (child : Sort → Reader) (n : ℕ) where
 pub attribute_reads_at : (n : ℕ) (l : Label) (c : Forest) (ts us : List Token) → fill (first_slots l c (spells c) an_attribute) ts ≡ Some us → Within n (tree l c end) → Unopened us → reading n an_attribute ts ≡ Some (node_of l c, us)
 attribute_reads_at n l c ts us h w e =
     spanned_attribute_reads (ranked (at_level n any) 1) n (attribute_reads (ranked (at_level n any) 0) n (from_any (λ p ts. at_level n p an_expression ts) n (complete n))) l c ts us h w e
+
+-- a word comes first
+abbrev pub Named : List Token → Type 0
+Named vs = (t : Text) × (ws : List Token) × (vs ≡ name t ∷ ws)
+
+pub binder_reads : (l : Label) (o : Forest) (ts vs : List Token) → fill (leaf_slots (an_ident binder) l o) ts ≡ Some vs → Named ts × (read_leaf (an_ident binder) ts ≡ Some (l, vs))
+binder_reads (ident q t) o ts vs h =
+    let x : ((same_role binder q && is_name t) ≡ true) × (fill (Some (named t ∷ [])) ts ≡ Some vs) = where_true (same_role binder q && is_name t) (Some (named t ∷ [])) ts vs h in
+    let y : (same_role binder q ≡ true) × (is_name t ≡ true) = and_parts (same_role binder q) (is_name t) x.0 in
+    let e : ts ≡ name t ∷ vs = stands (name t) ts vs (one (named t) ts vs x.1) in
+    ((t, vs, e), ap (λ z. read_leaf (an_ident binder) z) e ∙ (ap (λ b. if b then Some (ident binder t, vs) else None) (and_parts (is_word t) (is_free t) y.1).1 ∙ ap (λ z. Some (ident z t, vs)) (role_is binder q y.0)))
+binder_reads (kind k) o ts vs h = absurd (no_some vs h)
+binder_reads l o ts vs h = absurd (no_some vs h)
+
+pub name_reads : (l : Label) (o : Forest) (ts vs : List Token) → fill (leaf_slots a_name l o) ts ≡ Some vs → Named ts × (read_leaf a_name ts ≡ Some (l, vs))
+name_reads (text t) o ts vs h =
+    let x : (is_name t ≡ true) × (fill (Some (named t ∷ [])) ts ≡ Some vs) = where_true (is_name t) (Some (named t ∷ [])) ts vs h in
+    let e : ts ≡ name t ∷ vs = stands (name t) ts vs (one (named t) ts vs x.1) in
+    ((t, vs, e), ap (λ z. read_leaf a_name z) e ∙ ap (λ b. if b then Some (text t, vs) else None) (and_parts (is_word t) (is_free t) x.0).1)
+name_reads (kind k) o ts vs h = absurd (no_some vs h)
+name_reads l o ts vs h = absurd (no_some vs h)
 
 -- ---- attributes before a node
 
@@ -90,29 +111,8 @@ module _ (child : Sort → Reader) (n : ℕ) (one_attribute : ReadsSort child n 
       (λ k d l c ts us h w. ap (λ z. begins_sign is.ParenLeft z) (attribute_at l c ts us h).1)
       g (length ts) ts us (le_refl (length ts)) h w a (last_is g us e)
 
-  -- a name behind attributes
-  abbrev pub Named : List Token → Type 0
-  Named vs = (t : Text) × (ws : List Token) × (vs ≡ name t ∷ ws)
-
   named_attributes : (g : Forest) (ts vs : List Token) → fill ((spells g).all an_attribute) ts ≡ Some vs → Within n g → Named vs → all_of (begins_child child an_attribute) (child an_attribute) (length ts) ts ≡ Some (g, vs)
   named_attributes g ts vs h w x = attributes_read g ts vs h w (ap (λ z. begins_sign is.At z) x.2) (ap (λ z. begins_sign is.ParenLeft z) x.2)
-
-  binder_reads : (l : Label) (o : Forest) (ts vs : List Token) → fill (leaf_slots (an_ident binder) l o) ts ≡ Some vs → Named ts × (read_leaf (an_ident binder) ts ≡ Some (l, vs))
-  binder_reads (ident q t) o ts vs h =
-      let x : ((same_role binder q && is_name t) ≡ true) × (fill (Some (named t ∷ [])) ts ≡ Some vs) = where_true (same_role binder q && is_name t) (Some (named t ∷ [])) ts vs h in
-      let y : (same_role binder q ≡ true) × (is_name t ≡ true) = and_parts (same_role binder q) (is_name t) x.0 in
-      let e : ts ≡ name t ∷ vs = stands (name t) ts vs (one (named t) ts vs x.1) in
-      ((t, vs, e), ap (λ z. read_leaf (an_ident binder) z) e ∙ (ap (λ b. if b then Some (ident binder t, vs) else None) (and_parts (is_word t) (is_free t) y.1).1 ∙ ap (λ z. Some (ident z t, vs)) (role_is binder q y.0)))
-  binder_reads (kind k) o ts vs h = absurd (no_some vs h)
-  binder_reads l o ts vs h = absurd (no_some vs h)
-
-  name_reads : (l : Label) (o : Forest) (ts vs : List Token) → fill (leaf_slots a_name l o) ts ≡ Some vs → Named ts × (read_leaf a_name ts ≡ Some (l, vs))
-  name_reads (text t) o ts vs h =
-      let x : (is_name t ≡ true) × (fill (Some (named t ∷ [])) ts ≡ Some vs) = where_true (is_name t) (Some (named t ∷ [])) ts vs h in
-      let e : ts ≡ name t ∷ vs = stands (name t) ts vs (one (named t) ts vs x.1) in
-      ((t, vs, e), ap (λ z. read_leaf a_name z) e ∙ ap (λ b. if b then Some (text t, vs) else None) (and_parts (is_word t) (is_free t) x.0).1)
-  name_reads (kind k) o ts vs h = absurd (no_some vs h)
-  name_reads l o ts vs h = absurd (no_some vs h)
 
   -- parameters and members: attributes, a name, `:` and a type
   parameter_ok : ReadsSort child n a_type Ends (child a_type) → RowOk child (read_part child) n Ends (attrs (leaf (an_ident binder) (sym is.Colon (own a_type nothing))))
@@ -156,10 +156,10 @@ module _ (child : Sort → Reader) (n : ℕ) (one_attribute : ReadsSort child n 
   bare_member_reads types l c ts us h w e = node_by child n a_bare_member l (kind member) c (attrs (leaf a_name (sym is.Colon (own a_type nothing)))) Ends ts us h refl (member_is l) (member_ok types) (within_below l c end n w) e
 
 -- a parameter that is said is read, and a member without its span
-types_at : (n : ℕ) → ReadsSort (ranked (at_level n any) 2) n a_type Ends (ranked (at_level n any) 2 a_type)
+pub types_at : (n : ℕ) → ReadsSort (ranked (at_level n any) 2) n a_type Ends (ranked (at_level n any) 2 a_type)
 types_at n l c ts us h w e = type_reads (ranked (at_level n any) 1) n (argument_reads (ranked (at_level n any) 0) n (from_any (λ p ts. at_level n p an_expression ts) n (complete n))) l c ts us h w e
 
-attributes_at : (n : ℕ) → ReadsSort (ranked (at_level n any) 2) n an_attribute Unopened (ranked (at_level n any) 2 an_attribute)
+pub attributes_at : (n : ℕ) → ReadsSort (ranked (at_level n any) 2) n an_attribute Unopened (ranked (at_level n any) 2 an_attribute)
 attributes_at n l c ts us h w e = attribute_reads_at n l c ts us h w e
 
 pub parameter_reads_at : (n : ℕ) (l : Label) (c : Forest) (ts us : List Token) → fill (first_slots l c (spells c) a_parameter) ts ≡ Some us → Within n (tree l c end) → Ends us → reading n a_parameter ts ≡ Some (node_of l c, us)

@@ -26,7 +26,7 @@ names_free (t ∷ ts) h =
     ap (λ z. z && are_free ts) y.1 ∙ names_free ts x.1
 
 -- a free word is none of these
-not_free : (t u : Text) → is_free t ≡ true → is_free u ≡ false → bytes_eq t u ≡ false
+pub not_free : (t u : Text) → is_free t ≡ true → is_free u ≡ false → bytes_eq t u ≡ false
 not_free t u h k = at (bytes_eq t u) refl where
   at : (b : Bool) → bytes_eq t u ≡ b → b ≡ false
   at false e = refl
@@ -45,11 +45,11 @@ must_first t ss ts vs h = at (behind_token t ts) refl h where
 abbrev pub no_step : List Token → Bool
 no_step ts = not (begins_name ts && begins_sign is.ColonColon (behind_first ts))
 
-no_steps : (ts : List Token) → no_step ts ≡ true → step_words ts ≡ ([], ts)
+pub no_steps : (ts : List Token) → no_step ts ≡ true → step_words ts ≡ ([], ts)
 no_steps (name t ∷ symbol is.ColonColon ∷ ts) h = absurd (no_true h)
 no_steps ts h = refl
 
-steps_read : (ws : List Text) (ts vs : List Token) → left (stepped ws) ts ≡ Some vs → no_step vs ≡ true → step_words ts ≡ (ws, vs)
+pub steps_read : (ws : List Text) (ts vs : List Token) → left (stepped ws) ts ≡ Some vs → no_step vs ≡ true → step_words ts ≡ (ws, vs)
 steps_read [] ts vs h e = let q : ts ≡ vs = of_some ts vs h in no_steps ts (ap no_step q ∙ e) ∙ ap (λ z. let x : List Text × List Token = ([], z) in x) q
 steps_read (w ∷ ws) ts vs h e =
     let x : (us : List Token) × (ts ≡ name w ∷ us) × (left (signed is.ColonColon ∷ stepped ws) us ≡ Some vs) = must_first (name w) (signed is.ColonColon ∷ stepped ws) ts vs h in
@@ -58,7 +58,7 @@ steps_read (w ∷ ws) ts vs h e =
 
 -- ---- paths without slashes
 
-free_is : (o : Origin) (ws : List Text) → are_free ws ≡ true → free_path o ws ≡ Some (record { origin = o; components = ws })
+pub free_is : (o : Origin) (ws : List Text) → are_free ws ≡ true → free_path o ws ≡ Some (record { origin = o; components = ws })
 free_is o ws h = ap (λ b. if b then Some (record { origin = o; components = ws }) else None) h
 
 -- one more for each
@@ -70,14 +70,14 @@ up_suc : (n m : ℕ) → up n (suc m) ≡ suc (up n m)
 up_suc zero m = refl
 up_suc (suc n) m = up_suc n (suc m)
 
-up_one : (n : ℕ) → up n 1 ≡ suc n
+pub up_one : (n : ℕ) → up n 1 ≡ suc n
 up_one n = up_suc n 0 ∙ ap (λ z. suc z) (none n) where
   none : (n : ℕ) → up n 0 ≡ n
   none zero = refl
   none (suc n) = up_suc n 0 ∙ ap (λ z. suc z) (none n)
 
 -- more words `super`, and names
-supers_read : (n m : ℕ) (ws : List Text) → are_free ws ≡ true → super_path m (supers n ++ ws) ≡ Some (record { origin = relative (up n m); components = ws })
+pub supers_read : (n m : ℕ) (ws : List Text) → are_free ws ≡ true → super_path m (supers n ++ ws) ≡ Some (record { origin = relative (up n m); components = ws })
 supers_read (suc n) m ws h = supers_read n (suc m) ws h
 supers_read zero m [] h = refl
 supers_read zero m (w ∷ ws) h =
