@@ -181,7 +181,8 @@ def tokens(source):
             scan.at += 1
             found.append(Token("symbol", "<T" if begin in opened else "T>", begin, scan.at))
             continue
-        symbol = next((one for one in SYMBOLS if scan.text.startswith(one, begin)), None)
+        # A `>` that closes a template list is a token of its own, behind `-` too.
+        symbol = next((one for one in SYMBOLS if scan.text.startswith(one, begin) and begin + len(one) - 1 not in closed), None)
         if symbol is None and scan.text[begin] == "\ufeff":
             raise scan.fault(begin, "a byte order mark, which WGSL does not take; save the file without")
         if symbol is None:

@@ -137,30 +137,32 @@ class Parser:
 
     def import_statement(self, begin, attrs):
         self.take()
-        pieces = []
-        while not self.sees("{"):
-            pieces.append(self.piece(pieces, "a path, an item or `{`"))
-            while len(pieces) == 1 and self.takes("/"):
-                pieces[0] += "/" + self.name("the name of a package")
-            if not self.takes("::"):
-                break
-        content = self.import_content(pieces)
+        pieces, content = self.path_and_content(self.import_piece)
         self.expect(";")
         return node(attrs, path="::".join(pieces) or None, content=content, span=self.span(begin))
 
-    def import_content(self, pieces):
-        """What is imported: a collection, or the last of the pieces."""
-        if self.takes("{"):
-            return {"list": self.listed("}", self.import_entry)}
-        return node(item=pieces.pop(), **({"as": self.name("the new name")} if self.takes("as") else {}))
+    def path_and_content(self, read):
+        """The pieces of a path, each with `::` behind it, and what is imported there: a collection or an item."""
+        pieces = []
+        while not self.takes("{"):
+            pieces.append(read(pieces))
+            if not self.takes("::"):
+                if self.sees("{"):
+                    raise self.expected("`::` before a collection")
+                return pieces[:-1], node(item=pieces[-1], **({"as": self.name("the new name")} if self.takes("as") else {}))
+        return pieces, {"list": self.listed("}", self.import_entry)}
+
+    def import_piece(self, pieces):
+        """One more piece of a statement's path; the name of a package may have parts with `/` between them, and is no item then."""
+        found = self.piece(pieces, "a path, an item or `{`")
+        while not pieces and self.takes("/"):
+            found += "/" + self.name("the name of a package")
+        if "/" in found and not self.sees("::"):
+            raise self.expected("`::` behind the name of a package")
+        return found
 
     def import_entry(self):
-        pieces = []
-        while not self.sees("{"):
-            pieces.append(self.name("an item, a path or `{`"))
-            if not self.takes("::"):
-                break
-        content = self.import_content(pieces)
+        pieces, content = self.path_and_content(lambda _: self.name("an item, a path or `{`"))
         return node(path=pieces or None, content=content)
 
     def directive(self, begin, attrs):
