@@ -51,7 +51,12 @@ async function all() {
         const device = await adapter.requestDevice({requiredFeatures: [...adapter.features]});
         for (const unit of await (await fetch("/units")).json()) {
             const found = told.messages[unit.name] = await judge(device, unit);
-            if (unit.run && !found.some(one => one.type === "error")) told.results[unit.name] = await results(device, unit);
+            if (!unit.run || found.some(one => one.type === "error")) continue;
+            try {
+                told.results[unit.name] = await results(device, unit);
+            } catch (fault) {
+                found.push({type: "error", line: 0, column: 0, text: `run of ${unit.run.entry}: ${fault.message}`});
+            }
         }
     } catch (fault) {
         told.fault = String(fault);

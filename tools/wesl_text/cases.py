@@ -19,6 +19,12 @@ def builtins():
     return json.loads((TOP / "docs/wgsl_builtins.json").read_text(encoding="utf-8"))
 
 
+def kept_names(project, root, features):
+    """The entry points of the root; of one that is not read none, and the link tells its fault."""
+    module = project.module_at(root)
+    return [] if module is not None and module.fault is not None else project.entry_points(root, features)
+
+
 def case_of(project, name, options):
     """The case of the options of one bundle: `root`, `keep`, `features` (the name of a set, or null), `mangler` and so on."""
     described = project.description
@@ -28,7 +34,7 @@ def case_of(project, name, options):
     root = options.get("root", project.default_root())
     keep = options.get("keep", described.get("keep"))
     if keep is None:
-        keep = project.entry_points(root, features)
+        keep = kept_names(project, root, features)
     mangler = options.get("mangler", "escape")
     more = {key: value for key, value in options.items() if key in ("mangle_root", "eager", "max_modules")}
     if options.get("validate", True):
