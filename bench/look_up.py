@@ -229,17 +229,20 @@ class Walk:
         found["body"] = self.body(tree["body"], [], [block], kept)
         return found
 
-    def body(self, tree, outside, blocks, kept, last=None, key=None):
-        """A body whose attributes stand in `outside` and whose statements in `blocks`; the part `last` of its holder, if there is
-        one, is the last element of its list, and is put under `key` of what is answered."""
+    def body(self, tree, outside, blocks, kept):
+        """A body whose attributes stand in `outside` and whose statements in `blocks`."""
+        return self.body_before(tree, outside, blocks, kept, {"k": "void"})[0]
+
+    def body_before(self, tree, outside, blocks, kept, last):
+        """A body, and the choices that keep the part of its holder that is the last element of its list."""
         statements = tree.get("stmts", [])
-        judged = self.judged(statements + ([last] if last else []), kept)
+        judged = self.judged([*statements, last], kept)
         found = dict(tree)
         if "attrs" in tree:
             found["attrs"] = self.attributes(tree["attrs"], outside, kept)
         if statements:
             found["stmts"] = [self.statement(one, blocks, self.rules.inside(kept, judged[id(one)])) for one in statements]
-        return (found, self.rules.inside(kept, judged[id(last)])) if key else found
+        return found, self.rules.inside(kept, judged[id(last)])
 
     def statement(self, tree, blocks, kept):
         kind = tree["k"]
@@ -280,19 +283,17 @@ class Walk:
 
     def loop_statement(self, tree, blocks, kept):
         found, inside = self.parts(tree, blocks, kept, []), [*blocks, set()]
-        continuing = tree.get("continuing")
-        found["body"], here = self.body(tree["body"], blocks, inside, kept, continuing, "continuing") if continuing else (
-            self.body(tree["body"], blocks, inside, kept), kept)
-        if continuing:
-            found["continuing"] = self.continuing(continuing, inside, here)
-        return found
+        if "continuing" not in tree:
+            return {**found, "body": self.body(tree["body"], blocks, inside, kept)}
+        found["body"], here = self.body_before(tree["body"], blocks, inside, kept, tree["continuing"])
+        return {**found, "continuing": self.continuing(tree["continuing"], inside, here)}
 
     def continuing(self, tree, blocks, kept):
-        found, inside, last = self.parts(tree, blocks, kept, []), [*blocks, set()], tree.get("break_if")
-        if not last:
+        found, inside = self.parts(tree, blocks, kept, []), [*blocks, set()]
+        if "break_if" not in tree:
             return {**found, "body": self.body(tree["body"], blocks, inside, kept)}
-        found["body"], here = self.body(tree["body"], blocks, inside, kept, last, "break_if")
-        return {**found, "break_if": self.parts(last, inside, here, ["expr"])}
+        found["body"], here = self.body_before(tree["body"], blocks, inside, kept, tree["break_if"])
+        return {**found, "break_if": self.parts(tree["break_if"], inside, here, ["expr"])}
 
     def for_statement(self, tree, blocks, kept):
         found, inside = self.parts(tree, blocks, kept, []), [*blocks, set()]
