@@ -45,15 +45,11 @@ impl Trees {
 }
 
 impl Resolver for Trees {
-    ghost ready = { λ _. Unit {0} };
-
     ghost hands = { λ _ p u. Unit {0} };
 
     ghost refuses = { λ _ p e. Unit {0} };
 
     ghost source = { λ _ p text. Unit {0} };
-
-    ghost lacks = { λ _ p e. Unit {0} };
 
     ghost shown = { λ _ p name. Unit {0} };
 
