@@ -8,7 +8,7 @@ use Rattle.wesl_tree_names.specs.declared.errors.ResolveError as resolve_error
 use Rattle.wesl_cond_features.specs.declared.features.Features.{Features}
 use Rattle.wesl_tree.specs.declared.unit.TranslationUnit.{TranslationUnit}
 use Rattle.wesl_tree_names.specs.Errors.{IsRefusedFor, OrMemory}
-use Rattle.wesl_resolve.specs.Preprocessor.{IsMade, IsMadeFault}
+use Rattle.wesl_resolve.specs.Preprocessor.{IsMade, IsMadeFault, AnyName}
 use Rattle.wesl_cond.specs.Conditioned.{IsConditioned}
 use Rattle.wesl_tree_syntax.specs.Unit.{UnitOf}
 use Rattle.wesl_link_symbols.specs.Tables.{Table}
@@ -91,13 +91,13 @@ module _ (hands hands2 : Path → UnitOf Text → Type 0) (refuses refuses2 : Pa
   faulty P Q f (resolve_error.FileNotFound file text) h = absurd h
   faulty P Q f resolve_error.Memory h = absurd h
 
-  fault-to : (p : Path) (e : ResolveError) → refuses p e ⊎ IsMadeFault (hands p) answers e → refuses_left hands2 refuses2 features p e
+  fault-to : (p : Path) (e : ResolveError) → refuses p e ⊎ IsMadeFault (hands p) answers p AnyName e → refuses_left hands2 refuses2 features p e
   fault-to p e (inl h) = inl ((faults p e).0 h)
-  fault-to p e (inr h) = inr (h.0, (units p _).0 h.1, faulty _ _ (λ fault k. (same h.0 (Err fault)).0 k) e h.2)
+  fault-to p e (inr h) = inr (h.0, (units p _).0 h.1, (h.2.0, tt, (faulty _ _ (λ fault k. (same h.0 (Err fault)).0 k) e h.2.2.0, h.2.2.1)))
 
-  fault-back : (p : Path) (e : ResolveError) → refuses_left hands2 refuses2 features p e → refuses p e ⊎ IsMadeFault (hands p) answers e
+  fault-back : (p : Path) (e : ResolveError) → refuses_left hands2 refuses2 features p e → refuses p e ⊎ IsMadeFault (hands p) answers p AnyName e
   fault-back p e (inl h) = inl ((faults p e).1 h)
-  fault-back p e (inr h) = inr (h.0, (units p _).1 h.1, faulty _ _ (λ fault k. (same h.0 (Err fault)).1 k) e h.2)
+  fault-back p e (inr h) = inr (h.0, (units p _).1 h.1, (h.2.0, tt, (faulty _ _ (λ fault k. (same h.0 (Err fault)).1 k) e h.2.2.0, h.2.2.1)))
 
-  pub left-alike : AreAlike (λ p u. IsMade (hands p) answers u) (hands_left hands2 refuses2 features) (λ p e. refuses p e ⊎ IsMadeFault (hands p) answers e) (refuses_left hands2 refuses2 features)
+  pub left-alike : AreAlike (λ p u. IsMade (hands p) answers u) (hands_left hands2 refuses2 features) (λ p e. refuses p e ⊎ IsMadeFault (hands p) answers p AnyName e) (refuses_left hands2 refuses2 features)
   left-alike = record { to = made; on = fault-to; back = fault-back }

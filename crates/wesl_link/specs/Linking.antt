@@ -35,7 +35,7 @@ module _ (hands : Path → UnitOf Text → Type 0) (refuses : Path → ResolveEr
 
   -- what is refused, or has a fault of a condition
   abbrev pub refuses_left : Path → ResolveError → Type 0
-  refuses_left p e = refuses p e ⊎ RefusesLeft features (hands p) e
+  refuses_left p e = refuses p e ⊎ RefusesLeft features (hands p) p e
 
   -- a link of what is left of the units that are handed out
   abbrev pub LinksLeft : Path → List Text → Bool → ℕ → ℕ → List Module → Type 0

@@ -109,8 +109,8 @@ handed-on features given e (fault, by, inl memory) other = absurd (other memory)
 handed-on features given e (fault, by, inr held) other =
     subst (λ x. IsOfModules (fault_of x)) (sym held.1) (refused-with _ (λ inner f. refused-by features given inner (subst (IsRefusedBy features (unit_view given)) (sym f.0) by) f.1) held.0 held.2)
 
-left : (features : Option Features) (hands : UnitOf Text → Type 0) (e : resolve_error.ResolveError) → RefusesLeft features hands e → IsOfModules (fault_of_resolver e)
-left features hands e h = refused-with _ (λ fault f. handed-on features h.0 fault f.0 f.1) e h.2
+left : (features : Option Features) (hands : UnitOf Text → Type 0) (p : Path) (e : resolve_error.ResolveError) → RefusesLeft features hands p e → IsOfModules (fault_of_resolver e)
+left features hands p e h = refused-with _ (λ fault f. handed-on features h.0 fault f.0 f.1) e h.2.2.0
 
 wrapped : (e : resolve_error.ResolveError) → IsOfModules (fault_of_resolver e) → IsModuleFault (error_of_resolve e)
 wrapped (resolve_error.Error' at inner declaration place display span source) h = inr h
@@ -149,9 +149,9 @@ module _ (hands : Path → UnitOf Text → Type 0) (refuses : Path → resolve_e
   standing-is-of-modules (error.BadBundle place) h = absurd h
 
 module _ (hands : Path → UnitOf Text → Type 0) (refuses : Path → resolve_error.ResolveError → Type 0) (features : Option Features) (of : (p : Path) (e : resolve_error.ResolveError) → refuses p e → IsOfModules (fault_of_resolver e)) where
-  either : (p : Path) (e : resolve_error.ResolveError) → refuses p e ⊎ RefusesLeft features (hands p) e → IsOfModules (fault_of_resolver e)
+  either : (p : Path) (e : resolve_error.ResolveError) → refuses p e ⊎ RefusesLeft features (hands p) p e → IsOfModules (fault_of_resolver e)
   either p e (inl h) = of p e h
-  either p e (inr h) = left features (hands p) e h
+  either p e (inr h) = left features (hands p) p e h
 
   link-is-of-modules : (p : Path) (keep : List Text) (is_eager : Bool) (limit : ℕ) (e : error.Error) → RefusesLink (hands_left hands refuses features) (refuses_left hands refuses features) p keep is_eager limit e → IsModuleFault e
   link-is-of-modules p keep is_eager limit e (inl h) = subst IsModuleFault (sym h.2) (or-memory _ (either p) h.0 h.1)

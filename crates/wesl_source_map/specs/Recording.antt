@@ -37,4 +37,4 @@ HasNamed writes name item old new = (other : Text) → new other ≡ written_if 
 
 -- the same of a mangler that is asked for the name of an item
 abbrev pub HasNamedItem : {M : Type 0} → Mangler.Ghosts M → M → M → Item → Type 0
-HasNamedItem g old new item = HasNamed g.writes (g.name_of old item.0 item.1) item (g.recorded old) (g.recorded new)
+HasNamedItem g old new item = HasNamed (g.writes old) (g.name_of old item.0 item.1) item (g.recorded old) (g.recorded new)
