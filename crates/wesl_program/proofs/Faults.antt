@@ -18,6 +18,7 @@ use Rattle.wesl_tree.specs.declared.unit.TranslationUnit.{TranslationUnit}
 use Rattle.wesl_json.specs.UnitTexts.{IsTreeFault}
 use Rattle.wesl_json_read.specs.Faults.{place_of}
 use Rattle.wesl_cond.specs.Conditioned.{IsHandedOn, IsRefusedBy}
+use Rattle.wesl_cond.proofs.HandedOn.{refused_tells}
 use Rattle.wesl_link.specs.Conditions.{RefusesLeft}
 use Rattle.wesl_link.specs.Linking.{RefusesLink, hands_left, refuses_left}
 use Rattle.wesl_program.specs.Fault as told
@@ -99,9 +100,10 @@ tells-condition names (error.BadBundle place) f h = absurd h
 tells-condition names error.Memory f h = absurd h
 
 refused-by : (features : Option Features) (given : TranslationUnit) (e : error.Error) → IsRefusedBy features (unit_view given) e → (e ≡ error.Memory → ⊥) → IsOfModules (fault_of e)
-refused-by None given e h other = absurd h
-refused-by (Some features) given e (inl h) other = absurd (other h.0)
-refused-by (Some features) given e (inr h) other = tells-condition _ e h.0 h.2
+refused-by features given e h other = elim (refused_tells features (unit_view given) e h) [
+  | inl memory ↦ absurd (other memory)
+  | inr told ↦ tells-condition told.0 e told.1 told.2
+]
 
 -- one refusal deeper, as a fault of a condition is handed on
 handed-on : (features : Option Features) (given : TranslationUnit) (e : error.Error) → IsHandedOn (IsRefusedBy features (unit_view given)) e → (e ≡ error.Memory → ⊥) → IsOfModules (fault_of e)

@@ -10,7 +10,7 @@ use Rattle.wesl_cond_chains.specs.Formulas.{Form, always, never, flag, templated
 use Rattle.wesl_cond_chains.specs.Lists.{Element}
 use Rattle.wesl_cond_features.specs.Features.{Replies}
 use Rattle.wesl_tree_base.specs.declared.span.Span.{Span}
-use Rattle.wesl_cond_faults.specs.Places.{Place, found_at, formula_places, condition_places, span_of, node_places, opened_after, opened_through, list_places}
+use Rattle.wesl_cond_chains.specs.Places.{Place, found_at, formula_places, condition_places, span_of, node_places, opened_after, opened_through, list_places}
 
 module _ {I : Type 0} where
   abbrev pub faults_of : List (Place I) → List (Fault I)

@@ -1,13 +1,13 @@
 -- The faults of the conditions of a judged list, each with the span of what is at fault, in document order.
-use Rattle.std.specs.Prelude.{List, [], ◌∷◌, ◌++◌, map, Bool, cond}
+use Rattle.std.specs.Prelude.{List, [], ◌∷◌, ◌++◌, map, Bool, false, cond}
 use Rattle.std.specs.List.{flat_map}
 use Rattle.wesl_cond_chains.specs.Chains.{Condition, none, on, else_on, otherwise}
 use Rattle.wesl_cond_chains.specs.Conditions.{is_void}
-use Rattle.wesl_cond_chains.specs.Faults.{conditions, conditions_of, opens, place_faults}
+use Rattle.wesl_cond_chains.specs.Faults.{StandsBy, conditions, conditions_of, opens, place_faults}
 use Rattle.wesl_cond_chains.specs.FormulaFaults.{Fault, invalid_flag, invalid_expression, faults_if_refused}
 use Rattle.wesl_cond_chains.specs.Formulas.{Form, always, never, flag, templated, within, negation, conjunction, disjunction, other, nowhere}
 use Rattle.wesl_cond_chains.specs.Lists.{Element}
-use Rattle.wesl_cond_features.specs.Features.{Replies}
+use Rattle.wesl_cond_features.specs.Features.{Replies, known}
 use Rattle.wesl_tree_base.specs.declared.span.Span.{Span}
 use Rattle.wesl_tree_syntax.specs.Tree.{LabelOf, ForestOf, at}
 
@@ -68,3 +68,7 @@ module _ {I : Type 0} where
   abbrev pub list_places : Replies I → Bool → List (Element I) → List (Place I)
   list_places reply opened [] = []
   list_places reply opened (x ∷ xs) = node_places reply opened x ++ list_places reply (opened_after opened x) xs
+
+  -- a fault stands in some trees, with the span of what is at fault
+  abbrev pub StandsAt : Replies I → Bool → ForestOf I → Place I → Type 0
+  StandsAt reply = StandsBy (list_places reply false) (known reply)
