@@ -35,11 +35,12 @@ pub fn condition(
 fn handed_on(alloc: Global, told: Diagnostic) -> Error
     ensures { IsHandedOn (λ fault. fault ≡ (out-Diagnostic told).error) result }
 {
-    match &told.error {
-        Error::Memory => Error::Memory,
-        _ => match Box::new(alloc, told) {
+    if told.error.is_memory() {
+        Error::Memory
+    } else {
+        match Box::new(alloc, told) {
             Ok(told) => Error::Resolve(ResolveError::Error(told)),
             Err(_) => Error::Memory,
-        },
+        }
     }
 }
