@@ -1,5 +1,5 @@
 -- One step of what is left of a formula, and of its faults.
-use Rattle.std.proofs.Common.{◌≡◌, ℕ, rules, List, [], ◌∷◌, ◌++◌, cond, Option, ◌⊎◌, inl, inr, refl, sym, ap, ◌∙◌}
+use Rattle.std.proofs.Common.{◌≡◌, ℕ, rules, List, [], ◌∷◌, ◌++◌, cond, Option, Result, ◌⊎◌, inl, inr, refl, sym, ap, ◌∙◌, subst}
 use Rattle.wesl_cond_features.specs.declared.features.Truth.{Truth}
 use Rattle.wesl_cond_features.specs.declared.features.Truth.TheVariants.{Yes, No, Undecided}
 use Rattle.wesl_cond_features.specs.Answers.{Answers, opposite, both_hold, one_holds}
@@ -8,7 +8,10 @@ use Rattle.wesl_cond_chains.specs.FormulaResidual.{literal, parenthesized, negat
 use Rattle.std.specs.Box.{with_value}
 use Rattle.wesl_cond_chains.specs.Step.{operands_left, step, instead}
 use Rattle.wesl_cond_features.specs.Features.{Replies}
+use Rattle.wesl_cond_chains.specs.Evaluation.{Judges}
 use Rattle.wesl_cond_chains.specs.Places.{Place, formula_places}
+use Rattle.wesl_tree_names.specs.Path.{Text}
+use Rattle.wesl_tree_names.specs.declared.errors.Diagnostic.{Diagnostic}
 use Rattle.wesl_cond_chains.proofs.WrittenBack.{written_back}
 use Rattle.wesl_tree_base.specs.declared.span.Span.{Span}
 use Rattle.wesl_tree_syntax.specs.View.{expression_view}
@@ -214,3 +217,11 @@ module _ (reply : Replies ℕ) where
       → formula_places reply span (form (expression_view (made.Binary o e d))) ≡ places_in e.value ++ places_in d.value
   joined_places span o e d (inl is) = ap (λ p. formula_places reply span (form (expression_view (made.Binary p e d)))) is ∙ ap (formula_places reply span) (form_conjunction e d)
   joined_places span o e d (inr is) = ap (λ p. formula_places reply span (form (expression_view (made.Binary p e d)))) is ∙ ap (formula_places reply span) (form_disjunction e d)
+
+  -- two operands, the first of which has no fault
+  pub both_judged : {A : Type 0} (names : List Text) (span : Span) (x : Expression) (o : BinaryOperator) (e d : Box (Spanned Expression)) (left right : Spanned Expression) (r : Result A Diagnostic) → x ≡ made.Binary o e d → (o ≡ ShortCircuitAnd) ⊎ (o ≡ ShortCircuitOr)
+      → left ≡ e.value → right ≡ d.value → places_in left ≡ [] → Judges names (places_in right) r → Judges names (formula_places reply span (form (expression_view x))) r
+  both_judged names span x o e d left right r is joins same also clear h =
+      subst (λ ps. Judges names ps r)
+      (sym (ap (λ y. formula_places reply span (form (expression_view y))) is ∙ joined_places span o e d joins ∙ ap (λ ps. ps ++ places_in d.value) (subst (λ y. places_in y ≡ []) same clear)))
+      (subst (λ y. Judges names (places_in y) r) also h)

@@ -58,9 +58,8 @@ fn check_attribute(
     ensures { Judges names.now (condition_places (replies names.now features.now) (condition_of_attribute attribute.now)) result }
 {
     match condition_of(attribute) {
-        Some(Condition::If(formula) | Condition::Elif(formula)) => {
-            check_formula(alloc, formula, names, features)
-        }
+        Some(Condition::If(formula)) => check_formula(alloc, formula, names, features),
+        Some(Condition::Elif(formula)) => check_formula(alloc, formula, names, features),
         Some(Condition::Else) | None => Ok(()),
     }
 }

@@ -8,7 +8,7 @@ returns-then-has_several c = λ names.
 
 pub returns-then-is_orphan : goal.returns-then-is_orphan
 returns-then-is_orphan c = λ names.
-    orphan_refused names c.args.span c.args.opened (attributes_forest c.args.attributes.now) c.has_several.result c.is_orphan.result c.at-2.result c.has_several.ensures c.if-has_several.false c.is_orphan.ensures c.if-is_orphan.true c.at-2.ensures
+    orphan_refused names c.args.span c.args.opened (attributes_forest c.args.attributes.now) c.has_several.result c.is_orphan.result c.at-then-is_orphan.result c.has_several.ensures c.if-has_several.false c.is_orphan.ensures c.if-is_orphan.true c.at-then-is_orphan.ensures
 
 pub returns : goal.returns
 returns c = λ names.
