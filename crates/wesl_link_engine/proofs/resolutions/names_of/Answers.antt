@@ -3,6 +3,7 @@ use Rattle.std.proofs.lemmas.List.{take_all}
 use Rattle.wesl_link_symbols.proofs.Lists.{contains_first, contains_later}
 use Rattle.wesl_link_tables.specs.TextsView.{numbering_of_texts as numbering}
 use Rattle.wesl_link_engine.specs.GivenView.{given}
+use Rattle.wesl_link_engine.specs.Recorded.{IsRecordedBy}
 use Rattle.wesl_link_engine.specs.Keeping.{module_of, all_loaded}
 use Rattle.wesl_link_engine.specs.declared.loaded.LoadedModule.{LoadedModule}
 use Rattle.wesl_link_engine.proofs.Lists.{item_held}
@@ -25,7 +26,7 @@ pub loop-module-init : goal.loop-module-init
 loop-module-init g c =
     let l = c.args.link.now in
     let f = g.M.Mangler.name_of c.args.mangler.now in
-    let writes = g.M.Mangler.writes in
+    let writes = g.M.Mangler.writes c.args.mangler.now in
     let start = g.M.Mangler.recorded c.args.mangler.now in
     let old = given c.new-given.result in
     elim c.if-mangle_root.branch [
@@ -44,12 +45,14 @@ loop-module-init g c =
                   wrote = w.in_ok-add_table.ensures.recorded;
                 }));
             same_variants = w.add_table.ensures.same_variants;
+            same_writing = w.add_table.ensures.same_writing;
           })
       | else-mangle_root w ↦
           let is : c.args.mangle_root ≡ false = search rules in
           rw (w.mangler-is, w.given-is) (record {
             mangles = subst (λ (b : Bool). Mangles l b f writes start [] old f start) (sym is) (begins l f writes old (λ p n. c.new-given.ensures (record { path = p; name = n })) start);
             same_variants = λ ns i n ts. refl;
+            same_writing = refl;
           })
     ]
 
@@ -87,9 +90,10 @@ loop-module-preserved g c =
             gives = c.in_ok-add_table-2.ensures.given;
             others = c.add_table-in-loop-module.ensures.others;
             keeps = c.add_table-in-loop-module.ensures.keeps;
-            wrote = c.in_ok-add_table-2.ensures.recorded;
+            wrote = λ none. subst (λ b. IsRecordedBy b _ _ _) c.loop-module.invariant.same_writing (c.in_ok-add_table-2.ensures.recorded none);
           }) c.loop-module.invariant.mangles;
       same_variants = λ ns i n ts. c.add_table-in-loop-module.ensures.same_variants ns i n ts ∙ c.loop-module.invariant.same_variants ns i n ts;
+      same_writing = c.add_table-in-loop-module.ensures.same_writing ∙ c.loop-module.invariant.same_writing;
     }
 
 pub returns-clause-given : goal.returns-clause-given
