@@ -11,3 +11,4 @@ pub use Rattle.wesl_source_map_entries.specs.Listed
 pub use Rattle.wesl_source_map_entries.specs.Tables
 pub mod BasicView
 pub mod Recording
+pub mod Starting
