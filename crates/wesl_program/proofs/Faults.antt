@@ -6,6 +6,7 @@ use Rattle.serde_json.specs.Data.{Data}
 use Rattle.wesl_tree_syntax.specs.Unit.{UnitOf}
 use Rattle.wesl_tree_names.specs.Path.{Text, Path}
 use Rattle.wesl_tree_names.specs.Errors.{IsModuleNotFound, IsRefusedWith, OrMemory, error_of_resolve}
+use Rattle.wesl_tree_names.specs.declared.errors.Diagnostic.{Diagnostic, out-Diagnostic}
 use Rattle.wesl_tree_names.specs.declared.errors.Error as error
 use Rattle.wesl_tree_base.specs.declared.faults.CondCompError.{CondCompError}
 use Rattle.wesl_tree_base.specs.declared.faults.CondCompError.TheVariants as cond
@@ -37,6 +38,7 @@ use Rattle.wesl_program.specs.Refused.{IsLinkFault}
 use Rattle.wesl_link_reach.specs.World.{Task}
 use Rattle.wesl_link_reach.specs.Faults as standing
 use Rattle.wesl_link_engine.specs.Refusal.{TellsOfImport, TellsOf}
+use Rattle.wesl_link_engine.proofs.Refusing.{error_told}
 use Rattle.wesl_link_engine.specs.Worlds as worlds
 
 -- memory was refused, or a module is at fault and not the bundle
@@ -155,19 +157,20 @@ module _ (hands : Path → UnitOf Text → Type 0) (refuses : Path → resolve_e
   either p e (inl h) = of p e h
   either p e (inr h) = left features (hands p) p e h
 
-  link-is-of-modules : (p : Path) (keep : List Text) (is_eager : Bool) (limit : ℕ) (e : error.Error) → RefusesLink (hands_left hands refuses features) (refuses_left hands refuses features) p keep is_eager limit e → IsModuleFault e
-  link-is-of-modules p keep is_eager limit e (inl h) = subst IsModuleFault (sym h.2) (or-memory _ (either p) h.0 h.1)
-  link-is-of-modules p keep is_eager limit e (inr h) = standing-is-of-modules _ _ either h.0 _ limit e h.2
+  link-is-of-modules : (p : Path) (keep : List Text) (is_eager : Bool) (limit : ℕ) (d : Diagnostic) → RefusesLink (hands_left hands refuses features) (refuses_left hands refuses features) p keep is_eager limit d
+      → IsModuleFault (out-Diagnostic d).error
+  link-is-of-modules p keep is_eager limit d (inl h) = subst IsModuleFault (sym (ap (λ r. r.error) h.2)) (or-memory _ (either p) h.0 h.1)
+  link-is-of-modules p keep is_eager limit d (inr h) = standing-is-of-modules _ _ either h.0 _ limit (out-Diagnostic d).error (error_told _ d h.2)
 
 -- a fault of a link of a bundle
-pub bundle-fault : (b : Bundle) (features : Option Features) → AreFeatures b features → (e : error.Error)
-    → RefusesLink (handed_left b features) (refused_left b features) b.root b.keep b.options.eager b.options.max_modules e → IsLinkFault b e
-bundle-fault b features are e h =
-    by (link-is-of-modules (handed b) (refused b) features (λ p x. refused_found p (found b.packages b.modules p) x) b.root b.keep b.options.eager b.options.max_modules e h)
+pub bundle-fault : (b : Bundle) (features : Option Features) → AreFeatures b features → (d : Diagnostic)
+    → RefusesLink (handed_left b features) (refused_left b features) b.root b.keep b.options.eager b.options.max_modules d → IsLinkFault b (out-Diagnostic d).error
+bundle-fault b features are d h =
+    by (link-is-of-modules (handed b) (refused b) features (λ p x. refused_found p (found b.packages b.modules p) x) b.root b.keep b.options.eager b.options.max_modules d h)
   where
-    by : IsModuleFault e → IsLinkFault b e
+    by : IsModuleFault (out-Diagnostic d).error → IsLinkFault b (out-Diagnostic d).error
     by (inl is) = inl is
-    by (inr of) = inr (of, (e, inl (features, are, h), refl))
+    by (inr of) = inr (of, ((out-Diagnostic d).error, inl (features, are, (d, refl, h)), refl))
 
 -- ---- faults of a unit
 
