@@ -2,7 +2,6 @@
 ghost use Rattle.std.specs.Prelude.{Option, None};
 ghost use Rattle.wesl_tree_names.specs.Path.{Text, Path};
 ghost use Rattle.wesl_source_map_entries.specs.Records.{Items, Sources};
-ghost use Rattle.wesl_source_map.specs.Starting.{KeepsStart};
 
 use crate::mapper::SourceMapper;
 use std::alloc::Global;
@@ -61,6 +60,8 @@ pub struct Asked<R, M, S: Start> {
 }
 
 impl<R: Resolver, M: Mangler, S: Start> Resolver for Asked<R, M, S> {
+    ghost use Rattle.wesl_source_map.specs.Starting.{KeepsStart};
+
     ghost ready = { λ s. R.ready s.mapper.resolver × KeepsStart S.Start R.Resolver M.Mangler s.mapper };
 
     ghost hands = { λ s. R.hands s.mapper.resolver };
