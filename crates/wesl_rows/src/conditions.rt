@@ -6,7 +6,7 @@ use wesl::{
     Diagnostic, Error, Feature, Features, GlobalDeclaration, TranslationUnit, alive_together,
     eval_attr, flag_count,
 };
-use wesl_rows_base::{List, Object, Row, declared, fault, is_refused};
+use wesl_rows_base::{List, Object, Row, declared, fault, is_refused, put_span};
 
 /// What a run under the `features`, and then `next` if they are there, leaves of the unit of the `tree`, or the fault
 /// that it tells, which is to leave the unit as it was.
@@ -29,12 +29,7 @@ pub fn left(row: Row<'_>) -> Value {
 /// A fault of a condition, with its span where one is told.
 fn fault_told(row: Row<'_>, told: &Diagnostic) -> Value {
     let mut answer = Object::new(row.alloc);
-    if let Some(span) = told.span {
-        let mut ends = List::new(row.alloc);
-        ends.put(Value::from(span.start));
-        ends.put(Value::from(span.end));
-        answer.put("span", ends.end(row));
-    }
+    put_span(row, &mut answer, &told.span);
     answer.put("told", declared(row, told));
     answer.end(row)
 }
