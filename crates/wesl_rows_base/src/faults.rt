@@ -110,10 +110,14 @@ pub fn put_span(row: Row<'_>, answer: &mut Object, span: &Option<Span>) {
     }
 }
 
-/// The answer of a diagnostic, with the module, its source and its display name, and the place where one is told.
+/// The answer of a diagnostic, with the module, its source and its display name, and the place and the declaration where
+/// they are told.
 pub fn located(row: Row<'_>, diagnostic: &Diagnostic) -> Value {
     let mut answer = object_of(row, &diagnostic.error);
     put_span(row, &mut answer, &diagnostic.span);
+    if let Some(name) = &diagnostic.declaration {
+        answer.text("declaration", name.as_str());
+    }
     let module = match &diagnostic.module {
         Some(path) => row.path_value(path),
         None => Value::Null,
