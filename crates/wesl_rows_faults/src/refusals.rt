@@ -1,7 +1,5 @@
 //! What the refusals of links and of resolvers tell beside their errors: the module, the name by which it is shown, its source
 //! and a place in it.
-ghost use Rattle.std.specs.Prelude.{◌≡◌};
-
 use crate::resolvers::{passed, refused};
 use crate::shown::Shown;
 use serde_json::Value;
