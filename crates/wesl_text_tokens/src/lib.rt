@@ -1,8 +1,12 @@
 //! The tokens of shader text: what a text is read as before its grammar is asked (WGSL, "Textual Structure", "Template Lists").
 #![tactic(auto)]
 
+mod comment;
+mod fault;
+mod number;
 mod rows;
 mod symbol;
 
+pub use fault::TokenFault;
 pub use rows::rows_of_tokens;
 pub use symbol::Symbol;
