@@ -1,4 +1,8 @@
 //! Why a text has no tokens.
+ghost use Rattle.std.specs.Prelude.{◌≡◌};
+ghost use Rattle.wesl_text_tokens.specs.declared.fault.TokenFault.TheVariants as told;
+
+use std::alloc::{AllocError, AllocFailed};
 
 /// Why a text has no tokens, and where: a place is the bytes before it.
 #[derive(Clone, Copy, PartialEq, Eq, Drop)]
@@ -13,4 +17,20 @@ pub enum TokenFault {
     TooLong,
     /// Want of memory.
     Memory,
+}
+
+impl<T: Drop> From<AllocFailed<T>> for TokenFault {
+    ghost from_gives = { λ _ fault. fault ≡ told.Memory };
+
+    fn from(_failure: AllocFailed<T>) -> TokenFault {
+        TokenFault::Memory
+    }
+}
+
+impl From<AllocError> for TokenFault {
+    ghost from_gives = { λ _ fault. fault ≡ told.Memory };
+
+    fn from(_failure: AllocError) -> TokenFault {
+        TokenFault::Memory
+    }
 }

@@ -1,12 +1,17 @@
 //! The tokens of shader text: what a text is read as before its grammar is asked (WGSL, "Textual Structure", "Template Lists").
 #![tactic(auto)]
 
+mod character;
 mod comment;
 mod fault;
 mod number;
+mod piece;
+mod reading;
 mod rows;
 mod symbol;
+mod token;
 
 pub use fault::TokenFault;
 pub use rows::rows_of_tokens;
 pub use symbol::Symbol;
+pub use token::{PlacedToken, Token};
