@@ -1,7 +1,7 @@
 //! What characters are, and which stands at a place (WGSL, "Blankspace and Line Breaks", "Identifiers").
-ghost use Rattle.std.specs.Prelude.{◌≡◌, ◌<◌, length, codes};
+ghost use Rattle.std.specs.Prelude.{◌≡◌, ◌<◌, length, true};
 ghost use Rattle.std.specs.Str.{IsCharBoundary};
-ghost use Rattle.wesl_text_tokens.specs.Characters.{begins_name, goes_on_name, is_blank, is_digit, is_doubled, is_hex, is_letter, is_line_end, is_one_of};
+ghost use Rattle.wesl_text_tokens.specs.Characters.{begins_name, goes_on_name, is_blank, is_digit, is_hex, is_letter, is_line_end};
 ghost use Rattle.wesl_text_tokens.specs.Reading.{IsCharAt};
 
 /// The character at a place.
@@ -12,7 +12,11 @@ pub(crate) fn char_at(text: &str, at: usize) -> char
     ensures { IsCharAt text.now at result }
 {
     let byte = text.as_bytes()[at];
-    if byte < 128 { byte as char } else { wide_char_at(text, at) }
+    if byte < 128 {
+        byte as char
+    } else {
+        wide_char_at(text, at)
+    }
 }
 
 /// The character at a place, where it is not of ASCII.
@@ -53,7 +57,8 @@ pub(crate) fn is_line_end(c: char) -> bool
 /// Whether the character is a digit.
 #[inline(always)]
 pub(crate) fn is_digit(c: char) -> bool
-    ensures { result ≡ is_digit c }
+    ensures value { result ≡ is_digit c }
+    ensures ascii { result ≡ true → c < 128 }
 {
     '0' <= c && c <= '9'
 }
@@ -79,7 +84,11 @@ fn is_letter(c: char) -> bool
 pub(crate) fn begins_name(c: char) -> bool
     ensures { result ≡ begins_name c }
 {
-    if c < '\u{80}' { c == '_' || is_letter(c) } else { unicode_ident::is_xid_start(c) }
+    if c < '\u{80}' {
+        c == '_' || is_letter(c)
+    } else {
+        unicode_ident::is_xid_start(c)
+    }
 }
 
 /// Whether a name may go on with the character.

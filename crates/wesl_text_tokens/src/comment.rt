@@ -52,7 +52,9 @@ pub(crate) fn comment_end(text: &str, start: usize, from: usize) -> Result<usize
         depth = left;
         half = last;
     }
-    Err(TokenFault::Comment { place: start as u32 })
+    Err(TokenFault::Comment {
+        place: start as u32,
+    })
 }
 
 /// How many block comments are open behind a character, and which half of a mark it may be.

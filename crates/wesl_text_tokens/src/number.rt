@@ -1,5 +1,5 @@
 //! The literals of numbers (WGSL, "Literals"), as one automaton.
-ghost use Rattle.std.specs.Prelude.{◌≡◌};
+ghost use Rattle.std.specs.Prelude.{◌≡◌, ◌<◌, IfSome};
 ghost use Rattle.wesl_text_tokens.specs.Numbers.{goes_on, is_whole_number};
 ghost use Rattle.wesl_text_tokens.specs.declared.number.Digits.TheVariants as read;
 
@@ -35,7 +35,8 @@ pub(crate) enum Digits {
 impl Digits {
     /// What the number goes on with at a character.
     pub(crate) fn goes_on(self, c: char) -> Option<Digits>
-        ensures { result ≡ goes_on self c }
+        ensures value { result ≡ goes_on self c }
+        ensures ascii { IfSome result (λ _. c < 128) }
     {
         match self {
             Digits::ZeroAlone => after_zero(c),
@@ -75,7 +76,8 @@ impl Digits {
 }
 
 fn after_zero(c: char) -> Option<Digits>
-    ensures { result ≡ goes_on read.ZeroAlone c }
+    ensures value { result ≡ goes_on read.ZeroAlone c }
+    ensures ascii { IfSome result (λ _. c < 128) }
 {
     match c {
         '0'..='9' => Some(Digits::LedByZero),
@@ -88,7 +90,8 @@ fn after_zero(c: char) -> Option<Digits>
 }
 
 fn after_whole(c: char) -> Option<Digits>
-    ensures { result ≡ goes_on read.Whole c }
+    ensures value { result ≡ goes_on read.Whole c }
+    ensures ascii { IfSome result (λ _. c < 128) }
 {
     match c {
         '0'..='9' => Some(Digits::Whole),
@@ -100,7 +103,8 @@ fn after_whole(c: char) -> Option<Digits>
 }
 
 fn after_led_by_zero(c: char) -> Option<Digits>
-    ensures { result ≡ goes_on read.LedByZero c }
+    ensures value { result ≡ goes_on read.LedByZero c }
+    ensures ascii { IfSome result (λ _. c < 128) }
 {
     match c {
         '0'..='9' => Some(Digits::LedByZero),
@@ -111,7 +115,8 @@ fn after_led_by_zero(c: char) -> Option<Digits>
 }
 
 fn after_pointed(c: char) -> Option<Digits>
-    ensures { result ≡ goes_on read.Pointed c }
+    ensures value { result ≡ goes_on read.Pointed c }
+    ensures ascii { IfSome result (λ _. c < 128) }
 {
     match c {
         '0'..='9' => Some(Digits::Pointed),
@@ -122,7 +127,8 @@ fn after_pointed(c: char) -> Option<Digits>
 }
 
 fn after_power(c: char) -> Option<Digits>
-    ensures { result ≡ goes_on read.Power c }
+    ensures value { result ≡ goes_on read.Power c }
+    ensures ascii { IfSome result (λ _. c < 128) }
 {
     match c {
         '0'..='9' => Some(Digits::Powered),
@@ -132,7 +138,8 @@ fn after_power(c: char) -> Option<Digits>
 }
 
 fn powered(c: char) -> Option<Digits>
-    ensures { result ≡ goes_on read.SignedPower c }
+    ensures value { result ≡ goes_on read.SignedPower c }
+    ensures ascii { IfSome result (λ _. c < 128) }
 {
     match c {
         '0'..='9' => Some(Digits::Powered),
@@ -141,7 +148,8 @@ fn powered(c: char) -> Option<Digits>
 }
 
 fn after_powered(c: char) -> Option<Digits>
-    ensures { result ≡ goes_on read.Powered c }
+    ensures value { result ≡ goes_on read.Powered c }
+    ensures ascii { IfSome result (λ _. c < 128) }
 {
     match c {
         '0'..='9' => Some(Digits::Powered),
@@ -151,7 +159,8 @@ fn after_powered(c: char) -> Option<Digits>
 }
 
 fn after_hex(c: char) -> Option<Digits>
-    ensures { result ≡ goes_on read.Hex c }
+    ensures value { result ≡ goes_on read.Hex c }
+    ensures ascii { IfSome result (λ _. c < 128) }
 {
     match c {
         '0'..='9' | 'A'..='F' | 'a'..='f' => Some(Digits::HexWhole),
@@ -161,7 +170,8 @@ fn after_hex(c: char) -> Option<Digits>
 }
 
 fn after_hex_whole(c: char) -> Option<Digits>
-    ensures { result ≡ goes_on read.HexWhole c }
+    ensures value { result ≡ goes_on read.HexWhole c }
+    ensures ascii { IfSome result (λ _. c < 128) }
 {
     match c {
         '0'..='9' | 'A'..='F' | 'a'..='f' => Some(Digits::HexWhole),
@@ -173,7 +183,8 @@ fn after_hex_whole(c: char) -> Option<Digits>
 }
 
 fn hex_pointed(c: char) -> Option<Digits>
-    ensures { result ≡ goes_on read.HexDot c }
+    ensures value { result ≡ goes_on read.HexDot c }
+    ensures ascii { IfSome result (λ _. c < 128) }
 {
     match c {
         '0'..='9' | 'A'..='F' | 'a'..='f' => Some(Digits::HexPointed),
@@ -182,7 +193,8 @@ fn hex_pointed(c: char) -> Option<Digits>
 }
 
 fn after_hex_pointed(c: char) -> Option<Digits>
-    ensures { result ≡ goes_on read.HexPointed c }
+    ensures value { result ≡ goes_on read.HexPointed c }
+    ensures ascii { IfSome result (λ _. c < 128) }
 {
     match c {
         '0'..='9' | 'A'..='F' | 'a'..='f' => Some(Digits::HexPointed),

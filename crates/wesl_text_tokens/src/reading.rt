@@ -1,8 +1,10 @@
 //! A text cut into its pieces, in one pass.
-ghost use Rattle.std.specs.Prelude.{◌≡◌, ◌+◌, ◌^◌, ◌<◌, ◌≤◌, ◌∷◌, [], length, slice_range, IfOk, IfErr, Ok, Some, option_map, option_to_list};
+ghost use Rattle.std.specs.Prelude.{◌≡◌, ℕ, not, ◌&&◌, ◌+◌, ◌^◌, ◌<◌, ◌≤◌, ◌∷◌, [], length, slice_range, IfOk, IfErr, Ok, Some, option_map, option_to_list};
 ghost use Rattle.std.specs.Str.{IsCharBoundary};
-ghost use Rattle.wesl_text_tokens.specs.Pieces.{a_sign, gap, in_name, in_number, in_sign, piece};
-ghost use Rattle.wesl_text_tokens.specs.Reading.{AreDigitsTo, DigitsEndAt, FindsItem, IsCharAt, IsNameTo, LeadsTo, TellsFault, read_at};
+ghost use Rattle.wesl_text_tokens.specs.Characters.{goes_on_name};
+ghost use Rattle.wesl_text_tokens.specs.Numbers.{is_whole_number};
+ghost use Rattle.wesl_text_tokens.specs.Pieces.{a_sign, at_sign, gap, in_name, in_number, in_sign, piece};
+ghost use Rattle.wesl_text_tokens.specs.Reading.{AreDigitsTo, DigitsEndAt, FindsItem, IsCharAt, IsAsciiBehind, IsNameTo, IsNumberItem, LeadsTo, TellsFault, read_at, step_of};
 ghost use Rattle.wesl_text_tokens.specs.Symbols.{symbol_text};
 ghost use Rattle.wesl_text_tokens.specs.Views.{piece_of, pieces_of};
 
@@ -50,7 +52,10 @@ fn item_at<'a>(text: &'a str, at: usize) -> Result<Item<'a>, TokenFault>
     let first = char_at(text, at);
     let behind = at + first.len_utf8();
     if is_blank(first) {
-        Ok(Item { piece: None, end: behind })
+        Ok(Item {
+            piece: None,
+            end: behind,
+        })
     } else if begins_name(first) {
         Ok(name(text, at, behind))
     } else if first == '0' {
@@ -60,7 +65,10 @@ fn item_at<'a>(text: &'a str, at: usize) -> Result<Item<'a>, TokenFault>
     } else {
         match single_symbol(first) {
             Some(symbol) => sign(text, at, first, symbol),
-            None => Err(TokenFault::Character { character: first, place: at as u32 }),
+            None => Err(TokenFault::Character {
+                character: first,
+                place: at as u32,
+            }),
         }
     }
 }
@@ -77,7 +85,11 @@ fn name<'a>(text: &'a str, start: usize, from: usize) -> Item<'a>
     let end = name_end(text, from);
     let what = What::Name(&text[start..end]);
     Item {
-        piece: Some(Piece { what, start: start as u32, end: end as u32 }),
+        piece: Some(Piece {
+            what,
+            start: start as u32,
+            end: end as u32,
+        }),
         end,
     }
 }
@@ -113,12 +125,45 @@ fn number<'a>(
     ensures { FindsItem text.now (in_number start (slice_range text.now start from) read) from result }
 {
     let (end, digits) = digits_end(text, from, read);
-    if !digits.is_whole_number() || end < text.len() && goes_on_name(char_at(text, end)) {
-        return Err(TokenFault::Number { place: start as u32 });
+    if end == text.len() {
+        return number_item(digits.is_whole_number(), text, start, end);
+    }
+    number_item(ends_number(digits, char_at(text, end)), text, start, end)
+}
+
+/// Whether what has been read is a number, where a character stands behind its digits.
+#[inline(always)]
+fn ends_number(digits: Digits, behind: char) -> bool
+    ensures { result ≡ (is_whole_number digits && not (goes_on_name behind)) }
+{
+    digits.is_whole_number() && !goes_on_name(behind)
+}
+
+/// The piece of a number, where it is one.
+fn number_item<'a>(
+    is_number: bool,
+    text: &'a str,
+    start: usize,
+    end: usize,
+) -> Result<Item<'a>, TokenFault>
+    requires fits { length text.now < 2 ^ 32 }
+    requires begins { IsCharBoundary text.now start }
+    requires order { start ≤ end }
+    requires boundary { IsCharBoundary text.now end }
+    ensures { IsNumberItem text.now start end is_number result }
+{
+    if !is_number {
+        return Err(TokenFault::Number {
+            place: start as u32,
+        });
     }
     let what = What::Number(&text[start..end]);
     Ok(Item {
-        piece: Some(Piece { what, start: start as u32, end: end as u32 }),
+        piece: Some(Piece {
+            what,
+            start: start as u32,
+            end: end as u32,
+        }),
         end,
     })
 }
@@ -145,12 +190,7 @@ fn digits_end(text: &str, from: usize, read: Digits) -> (usize, Digits)
 }
 
 /// What a sign begins that stands at a place: a comment, a number, or else a piece.
-fn sign<'a>(
-    text: &'a str,
-    at: usize,
-    first: char,
-    symbol: Symbol,
-) -> Result<Item<'a>, TokenFault>
+fn sign<'a>(text: &'a str, at: usize, first: char, symbol: Symbol) -> Result<Item<'a>, TokenFault>
     requires fits { length text.now < 2 ^ 32 }
     requires begins { IsCharBoundary text.now at }
     requires there { IsCharAt text.now at first }
@@ -158,24 +198,56 @@ fn sign<'a>(
     requires symbol { symbol_text symbol ≡ first ∷ [] }
     ensures found { FindsItem text.now (in_sign at first) (at + 1) result }
 {
-    if at + 1 < text.len() {
-        let second = char_at(text, at + 1);
-        if first == '/' && second == '/' {
-            return Ok(Item { piece: None, end: line_end(text, at + 2) });
-        }
-        if first == '/' && second == '*' {
-            return Ok(Item { piece: None, end: comment_end(text, at, at + 2)? });
-        }
-        if first == '.' && is_digit(second) {
-            return number(text, at, at + 2, Digits::Pointed);
-        }
-        if first == second {
-            if let Some(double) = doubled_symbol(first) {
-                return Ok(sign_item(double, at, at + 2));
-            }
+    if at + 1 == text.len() {
+        return Ok(sign_item(symbol, at, at + 1));
+    }
+    let second = char_at(text, at + 1);
+    match begun_by(first, second) {
+        Beginning::LineComment => Ok(Item {
+            piece: None,
+            end: line_end(text, at + 2),
+        }),
+        Beginning::BlockComment => match comment_end(text, at, at + 2) {
+            Ok(end) => Ok(Item { piece: None, end }),
+            Err(fault) => Err(fault),
+        },
+        Beginning::Number => number(text, at, at + 2, Digits::Pointed),
+        Beginning::Double(double) => Ok(sign_item(double, at, at + 2)),
+        Beginning::Single => Ok(sign_item(symbol, at, at + 1)),
+    }
+}
+
+/// What two characters begin of which the first is a sign.
+#[derive(Clone, Copy, Drop)]
+enum Beginning {
+    LineComment,
+    BlockComment,
+    Number,
+    Double(Symbol),
+    Single,
+}
+
+/// What two characters begin of which the first is a sign.
+#[inline(always)]
+fn begun_by(first: char, second: char) -> Beginning
+    ensures step { (start at : ℕ) → at_sign start first at second ≡ step_of result start first at second }
+    ensures ascii { IsAsciiBehind result second }
+{
+    if first == '/' && second == '/' {
+        return Beginning::LineComment;
+    }
+    if first == '/' && second == '*' {
+        return Beginning::BlockComment;
+    }
+    if first == '.' && is_digit(second) {
+        return Beginning::Number;
+    }
+    if first == second {
+        if let Some(double) = doubled_symbol(first) {
+            return Beginning::Double(double);
         }
     }
-    Ok(sign_item(symbol, at, at + 1))
+    Beginning::Single
 }
 
 /// The piece of a sign.
@@ -187,7 +259,11 @@ fn sign_item<'a>(symbol: Symbol, start: usize, end: usize) -> Item<'a>
     ensures end { result.end ≡ end }
 {
     Item {
-        piece: Some(Piece { what: What::Sign(symbol), start: start as u32, end: end as u32 }),
+        piece: Some(Piece {
+            what: What::Sign(symbol),
+            start: start as u32,
+            end: end as u32,
+        }),
         end,
     }
 }

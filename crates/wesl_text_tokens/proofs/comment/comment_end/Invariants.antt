@@ -11,7 +11,7 @@ invariant-loop-at l = record {
   order : l.fn.from ≤ l.at;
   some : 0 < l.depth;
   fits : l.depth ≤ l.at + 1;
-  goes : read_at l.text (block_comment l.fn.start 1 half.Neither) l.fn.from ≡ read_at l.text (block_comment l.fn.start l.depth l.half) l.at
+  goes : read_at l.text (block_comment l.fn.start 1 half.Neither) l.fn.from ≡ read_at l.text (block_comment l.fn.start l.depth l.half) l.at;
 }
 
 abbrev pub decreases-loop-at : goal.decreases-loop-at

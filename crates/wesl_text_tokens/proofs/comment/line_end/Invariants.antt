@@ -8,7 +8,7 @@ abbrev pub invariant-loop-at : goal.invariant-loop-at
 invariant-loop-at l = record {
   boundary : IsCharBoundary l.text l.at;
   order : l.fn.from ≤ l.at;
-  goes : read_at l.text line_comment l.fn.from ≡ read_at l.text line_comment l.at
+  goes : read_at l.text line_comment l.fn.from ≡ read_at l.text line_comment l.at;
 }
 
 abbrev pub decreases-loop-at : goal.decreases-loop-at

@@ -7,7 +7,7 @@ abbrev pub invariant-loop-at : goal.invariant-loop-at
 invariant-loop-at l = record {
   boundary : IsCharBoundary l.text l.at;
   order : l.fn.from ≤ l.at;
-  goes : AreDigitsTo l.text l.fn.from l.fn.read l.at l.digits
+  goes : AreDigitsTo l.text l.fn.from l.fn.read l.at l.digits;
 }
 
 abbrev pub decreases-loop-at : goal.decreases-loop-at

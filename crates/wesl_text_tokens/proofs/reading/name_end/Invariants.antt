@@ -9,7 +9,7 @@ abbrev pub invariant-loop-at : goal.invariant-loop-at
 invariant-loop-at l = record {
   boundary : IsCharBoundary l.text l.at;
   order : l.fn.from ≤ l.at;
-  goes : (s : ℕ) → s ≤ l.fn.from → read_at l.text (in_name s (slice_range l.text s l.fn.from)) l.fn.from ≡ read_at l.text (in_name s (slice_range l.text s l.at)) l.at
+  goes : (s : ℕ) → s ≤ l.fn.from → read_at l.text (in_name s (slice_range l.text s l.fn.from)) l.fn.from ≡ read_at l.text (in_name s (slice_range l.text s l.at)) l.at;
 }
 
 abbrev pub decreases-loop-at : goal.decreases-loop-at

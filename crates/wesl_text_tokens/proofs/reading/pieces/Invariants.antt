@@ -8,7 +8,7 @@ use Rattle.wesl_text_tokens.proofs.reading.pieces.Given as goal
 abbrev pub invariant-loop-at : goal.invariant-loop-at
 invariant-loop-at l = record {
   boundary : IsCharBoundary l.text l.at;
-  goes : read_at l.text gap 0 ≡ followed_by (pieces_of l.found.items) (read_at l.text gap l.at)
+  goes : read_at l.text gap 0 ≡ followed_by (pieces_of l.found.items) (read_at l.text gap l.at);
 }
 
 abbrev pub decreases-loop-at : goal.decreases-loop-at
