@@ -29,7 +29,10 @@ fn invalid_flag(alloc: Global, name: &str, span: Span) -> Diagnostic
 {
     match String::from_str(alloc, name) {
         Ok(name) => {
-            Diagnostic::at(Error::CondComp(CondCompError::InvalidFeatureFlag(name)), span)
+            Diagnostic::at(
+                Error::CondComp(CondCompError::InvalidFeatureFlag(name)),
+                span,
+            )
         }
         Err(_) => Diagnostic::at(Error::Memory, span),
     }
@@ -41,7 +44,10 @@ fn unexpected_flag(alloc: Global, name: &str, span: Span) -> Diagnostic
 {
     match String::from_str(alloc, name) {
         Ok(name) => {
-            Diagnostic::at(Error::CondComp(CondCompError::UnexpectedFeatureFlag(name)), span)
+            Diagnostic::at(
+                Error::CondComp(CondCompError::UnexpectedFeatureFlag(name)),
+                span,
+            )
         }
         Err(_) => Diagnostic::at(Error::Memory, span),
     }

@@ -56,7 +56,12 @@ pub fn is_clear(outcome: Result<(), Diagnostic>) -> bool
 }
 
 /// Tells the faults of the conditions of the nodes of a list.
-pub fn tell_list<T: Conditional>(told: &mut Told, nodes: &Vec<T>, names: &Names, features: &Features)
+pub fn tell_list<T: Conditional>(
+    told: &mut Told,
+    nodes: &Vec<T>,
+    names: &Names,
+    features: &Features,
+)
     ensures { AddsFaults names.now (list_places (replies names.now features.now) false (nodes_in T.tree nodes.now.items)) told.old told.new }
 {
     let _ = tell_nodes(told, nodes, names, features);

@@ -226,14 +226,24 @@ module _ (nb : Numbering) (hands : Path → UnitOf Text → Type 0) (units : Lis
       let (g, same, there) = stands_there (missing p n) x in
       let (q, m, kind, at2, named2) = missing_so nb p n g same in
       let P : error.Error → Type 0 = Told home in
-      subst P (sym is) ((subst Refused (kind ∙ (ap (λ (z : Path). missing z m) (path_one p q (path_view path) at2 at) ∙ ap (missing (path_view path)) (name_one n m (string_bytes y) named2 named))) there,
-      somewhere p (path_view path) home at held), λ short. cc)
+      subst P (sym is) (
+        (
+          subst Refused (kind ∙ (ap (λ (z : Path). missing z m) (path_one p q (path_view path) at2 at) ∙ ap (missing (path_view path)) (name_one n m (string_bytes y) named2 named))) there,
+          somewhere p (path_view path) home at held,
+        ),
+        λ short. cc,
+      )
   refusal_told (faults.Private n p) e home x (y, path, is, named, at) held =
       let (g, same, there) = stands_there (private n p) x in
       let (m, q, kind, named2, at2) = private_so nb n p g same in
       let P : error.Error → Type 0 = Told home in
-      subst P (sym is) ((subst Refused (kind ∙ (ap (λ (z : Text). private z q) (name_one n m (string_bytes y) named2 named) ∙ ap (private (string_bytes y)) (path_one p q (path_view path) at2 at))) there,
-      somewhere p (path_view path) home at held), λ short. cc)
+      subst P (sym is) (
+        (
+          subst Refused (kind ∙ (ap (λ (z : Text). private z q) (name_one n m (string_bytes y) named2 named) ∙ ap (private (string_bytes y)) (path_one p q (path_view path) at2 at))) there,
+          somewhere p (path_view path) home at held,
+        ),
+        λ short. cc,
+      )
   refusal_told (faults.AmbiguousSymbol n) e home x (y, is, named) held =
       let (g, same, there) = stands_there (ambiguous n) x in
       let (m, kind, named2) = ambiguous_so nb n g same in

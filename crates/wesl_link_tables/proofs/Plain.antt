@@ -71,8 +71,7 @@ module _ (s : Scope Path Text) (is : List (Import Path Text)) (ds : List (Declar
 
   same_target : (i j : Import Path Text) → ((k : Import Path Text) × ComesFrom i k) → ((k : Import Path Text) × ComesFrom j k) → SameTarget i j
   same_target i j (a, f) (b, g) =
-      let (path, item) = one_target (binder_of a) (binder_of b) (named_import i a f) (named_import j b g) in
-      (
+      let (path, item) = one_target (binder_of a) (binder_of b) (named_import i a f) (named_import j b g) in (
         ap (λ (x : Import Path Text). x.path) f.is_settled ∙ (path ∙ sym (ap (λ (x : Import Path Text). x.path) g.is_settled)),
         ap (λ (x : Import Path Text). x.item) f.is_settled ∙ (item ∙ sym (ap (λ (x : Import Path Text). x.item) g.is_settled)),
       )
@@ -81,8 +80,7 @@ module _ (s : Scope Path Text) (is : List (Import Path Text)) (ds : List (Declar
   own_target i (d, held, name) (a, f) =
       let (b, c, declares, bound, place) = all.declared d n held name in
       let (its_path, its_item) = all.own b c declares in
-      let (path, item) = one_target (binder_of a) b (named_import i a f) (in_name b c bound) in
-      (
+      let (path, item) = one_target (binder_of a) b (named_import i a f) (in_name b c bound) in (
         ap (λ (x : Import Path Text). x.path) f.is_settled ∙ (path ∙ its_path),
         ap (λ (x : Import Path Text). x.item) f.is_settled ∙ (item ∙ (its_item ∙ (bound ∙ (sym f.name ∙ sym (ap (λ (x : Import Path Text). x.bound) f.is_settled))))),
       )
