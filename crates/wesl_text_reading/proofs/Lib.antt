@@ -1,0 +1,15 @@
+pub mod WorkedRows
+pub mod Filled
+pub mod Classes
+pub mod Takes
+pub mod KindsAgain
+pub mod Within
+pub mod RowReads
+pub mod Loops
+pub mod Chains
+pub mod Types
+pub mod Operands
+pub mod Complete
+pub mod Promises
+pub mod Attributes
+pub mod Runs
