@@ -2,8 +2,8 @@
 use crate::shown::Shown;
 use serde_json::Value;
 use wesl::{
-    BasicSourceMap, Diagnostic, EscapeMangler, FoundLink, Mapped, SourceMap, SourceMapper,
-    find_mapped, link_mapped,
+    BasicSourceMap, Diagnostic, EscapeMangler, FoundLink, LinkRequest, Mapped, SourceMap,
+    SourceMapper, find_mapped, link_mapped,
 };
 use wesl_rows_base::{List, Object, Row, is_refused, text_of};
 
@@ -58,15 +58,20 @@ fn finished(
 pub fn told(row: Row<'_>, is_by_two: bool) -> Value {
     let alloc = row.alloc;
     let keep = row.texts("keep");
-    let is_eager = row.has("eager");
+    let root = row.rooted("root");
+    let request = LinkRequest {
+        root: &root,
+        keep: keep.as_slice(),
+        is_eager: row.has("eager"),
+        max_modules: 1000,
+    };
     let modules = Shown::new(row, row.modules("modules"));
     let mut mapper = SourceMapper::new(alloc, row.rooted("root"), modules, EscapeMangler);
     mapper.sourcemap = recorded(row);
     let outcome = if is_by_two {
-        let found = find_mapped(alloc, keep.as_slice(), is_eager, mapper, &None, 1000);
-        finished(row, found)
+        finished(row, find_mapped(alloc, &request, mapper, None))
     } else {
-        link_mapped(alloc, keep.as_slice(), is_eager, mapper, true, &None, 1000)
+        link_mapped(alloc, &request, mapper, None, true)
     };
     match row.told(outcome) {
         Ok(mapped) => known(row, &mapped.map),

@@ -5,7 +5,7 @@ use crate::shown::Shown;
 use serde_json::Value;
 use wesl_cond::Features;
 use wesl_json::JsonText;
-use wesl_link::{link_under, resolve_eager, resolve_lazy};
+use wesl_link::{LinkRequest, link_under, resolve_eager, resolve_lazy};
 use wesl_resolve::{PkgResolver, Preprocessor, StandardResolver, VirtualResolver};
 use wesl_resolve_base::{CodegenModule, CodegenPkg, Resolver};
 use wesl_rows_base::{List, Row, located};
@@ -119,17 +119,15 @@ pub fn told_in_a_way(row: Row<'_>) -> Value {
 pub fn told_under_features(row: Row<'_>) -> Value {
     let keep = row.texts("keep");
     let path = row.rooted("path");
-    let features = Some(Features::new(row.alloc));
+    let request = LinkRequest {
+        root: &path,
+        keep: keep.as_slice(),
+        is_eager: false,
+        max_modules: 1000,
+    };
+    let features = Features::new(row.alloc);
     told(
         row,
-        link_under(
-            row.alloc,
-            keep.as_slice(),
-            false,
-            &path,
-            modules(row),
-            &features,
-            1000,
-        ),
+        link_under(row.alloc, &request, modules(row), Some(&features)),
     )
 }
