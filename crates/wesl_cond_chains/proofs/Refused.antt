@@ -1,5 +1,5 @@
 -- What is refused, and what its diagnostic tells.
-use Rattle.std.proofs.Common.{◌≡◌, ℕ, List, [], ◌∷◌, ◌++◌, ◌⊎◌, inl, inr, refl, sym, ap, subst}
+use Rattle.std.proofs.Common.{◌≡◌, ℕ, List, [], ◌∷◌, ◌++◌, inl, inr, refl, sym, ap, subst}
 use Rattle.wesl_cond_chains.specs.Evaluation.{Refuses, TellsPlace}
 use Rattle.wesl_cond_chains.specs.FormulaFaults.{Fault, IsAmong, Tells}
 use Rattle.wesl_cond_chains.specs.Places.{Place, found_at}

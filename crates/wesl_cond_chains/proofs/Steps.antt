@@ -1,5 +1,5 @@
 -- One step of what is left of a formula, and of its faults.
-use Rattle.std.proofs.Common.{◌≡◌, ℕ, rules, List, [], ◌∷◌, ◌++◌, cond, Option, Result, ◌⊎◌, inl, inr, refl, sym, ap, ◌∙◌, subst}
+use Rattle.std.proofs.Common.{◌≡◌, ℕ, rules, List, [], ◌++◌, cond, Option, Result, ◌⊎◌, inl, inr, refl, sym, ap, ◌∙◌, subst}
 use Rattle.wesl_cond_features.specs.declared.features.Truth.{Truth}
 use Rattle.wesl_cond_features.specs.declared.features.Truth.TheVariants.{Yes, No, Undecided}
 use Rattle.wesl_cond_features.specs.Answers.{Answers, opposite, both_hold, one_holds}
