@@ -1,5 +1,5 @@
 -- Where faults stand in a tree, by its parts.
-use Rattle.std.proofs.Common.{◌≡◌, ℕ, Bool, true, false, List, [], ◌∷◌, ◌⊎◌, inl, inr, Result, Ok, Err, Vec, Global, refl, sym, subst}
+use Rattle.std.proofs.Common.{◌≡◌, ℕ, Bool, true, false, List, [], ◌⊎◌, inl, inr, Result, Ok, Err, Vec, Global, refl, sym, subst}
 use Rattle.wesl_cond_chains.specs.Places.{StandsAt, list_places, Place}
 use Rattle.wesl_cond_chains.specs.Evaluation.{Refuses}
 use Rattle.wesl_cond_chains.specs.Chains.{staying}
