@@ -1,5 +1,5 @@
 -- The faults of formulas and of the attributes of nodes, told one after the other.
-use Rattle.std.proofs.Common.{◌≡◌, ℕ, Bool, true, false, not, ◌&&◌, cond, rules, List, [], ◌∷◌, ◌++◌, ◌⊎◌, inl, inr, map, take, drop, length, ◌≤◌, ◌<◌, ◌+◌, get_or, refl, sym, ap, ◌∙◌, subst, append_assoc, append-nil}
+use Rattle.std.proofs.Common.{◌≡◌, ℕ, Bool, true, false, not, ◌&&◌, cond, List, [], ◌∷◌, ◌++◌, ◌⊎◌, map, take, drop, length, ◌≤◌, ◌<◌, ◌+◌, get_or, refl, sym, ap, ◌∙◌, subst, append_assoc, append-nil}
 use Rattle.std.specs.List.{flat_map}
 use Rattle.std.specs.Global.{Box}
 use Rattle.std.proofs.lemmas.List.{drop_more, map_more}
@@ -7,11 +7,11 @@ use Rattle.wesl_cond_chains.proofs.Begun.{none_left, all_taken}
 use Rattle.wesl_cond_chains.proofs.Places.{formulas_next, place_is}
 use Rattle.wesl_cond_chains.proofs.Steps.{joined_places, places_in}
 use Rattle.wesl_cond_chains.proofs.Taken.{elements_as}
-use Rattle.wesl_cond_chains.specs.Chains.{Condition, none, on, else_on, otherwise, follows_on}
+use Rattle.wesl_cond_chains.specs.Chains.{follows_on}
 use Rattle.wesl_cond_chains.specs.Conditions.{attributes_in, first_condition, is_void}
-use Rattle.wesl_cond_chains.specs.Faults.{and_rest, conditions, opens, place_faults}
+use Rattle.wesl_cond_chains.specs.Faults.{conditions, opens, place_faults}
 use Rattle.wesl_cond_chains.specs.FormulaFaults.{Fault, duplicate_if, no_preceding_if}
-use Rattle.wesl_cond_chains.specs.Formulas.{conjunction, disjunction, form}
+use Rattle.wesl_cond_chains.specs.Formulas.{form}
 use Rattle.wesl_cond_chains.specs.Lists.{Element, elements}
 use Rattle.wesl_cond_chains.specs.Nodes.{as_element, attributes_forest, condition_of_attribute, is_several}
 use Rattle.wesl_cond_features.specs.Features.{Replies}
@@ -27,7 +27,7 @@ use Rattle.wesl_tree_syntax.specs.View.{expression_view}
 use Rattle.wesl_tree_syntax.specs.declared.attribute.Attribute.{Attribute}
 use Rattle.wesl_tree_syntax.specs.declared.expression.BinaryOperator.{BinaryOperator}
 use Rattle.wesl_tree_syntax.specs.declared.expression.BinaryOperator.TheVariants.{ShortCircuitAnd, ShortCircuitOr}
-use Rattle.wesl_tree_syntax.specs.declared.expression.Expression.{Expression, the_lemmas}
+use Rattle.wesl_tree_syntax.specs.declared.expression.Expression.{Expression}
 use Rattle.wesl_tree_syntax.specs.declared.expression.Expression.TheViews as made
 use Rattle.wesl_tree_syntax.specs.declared.span.Spanned.{Spanned}
 
@@ -43,7 +43,7 @@ module _ (names : List Text) (reply : Replies ℕ) where
   pub adds_operands : (span : Span) (x : Expression) (o : BinaryOperator) (e d : Box (Spanned Expression)) (left right : Spanned Expression) (a b c : Told) → x ≡ made.Binary o e d → (o ≡ ShortCircuitAnd) ⊎ (o ≡ ShortCircuitOr)
       → left ≡ e.value → right ≡ d.value → AddsFaults names (places_in reply left) a b → AddsFaults names (places_in reply right) b c → AddsFaults names (formula_places reply span (form (expression_view x))) a c
   adds_operands span x o e d left right a b c is joins same also p q =
-      adds_same names (places_in e.value ++ places_in d.value) (formula_places reply span (form (expression_view x))) a c
+      adds_same names (places_in reply e.value ++ places_in reply d.value) (formula_places reply span (form (expression_view x))) a c
       (sym (ap (λ y. formula_places reply span (form (expression_view y))) is ∙ joined_places reply span o e d joins))
       (adds_both names (places_in reply e.value) (places_in reply d.value) a b c (subst (λ y. AddsFaults names (places_in reply y) a b) same p) (subst (λ y. AddsFaults names (places_in reply y) b c) also q))
 

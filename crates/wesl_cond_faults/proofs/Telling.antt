@@ -1,5 +1,5 @@
 -- Faults told one after the other.
-use Rattle.std.proofs.Common.{◌≡◌, ◌↔◌, ℕ, Bool, true, false, List, [], ◌∷◌, ◌++◌, inl, refl, sym, ap, subst}
+use Rattle.std.proofs.Common.{◌≡◌, ◌↔◌, ℕ, Bool, true, false, List, [], ◌∷◌, ◌++◌, inl, refl, sym, subst}
 use Rattle.wesl_cond_chains.specs.FormulaFaults.{Fault, IsAmong, Tells}
 use Rattle.wesl_cond_chains.specs.Laws.{IsFaultless}
 use Rattle.wesl_cond_features.specs.Features.{Replies, by_number}
