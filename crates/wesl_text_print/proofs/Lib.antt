@@ -1,0 +1,6 @@
+pub mod Adding
+pub mod Views
+pub mod Lists
+pub mod Expressions
+pub mod Paths
+pub mod Operands

@@ -1,0 +1,4 @@
+pub mod Leads
+pub mod Classes
+pub mod First
+pub mod Levels
