@@ -33,8 +33,8 @@ pub returns-in-Ok-clause-is_read : goal.returns-in-Ok-clause-is_read
 returns-in-Ok-clause-is_read c =
     IfErr-weaker c.unit_of_borrowed.result _ _ (λ e h. of-value c.args.text.now (borrowed_view c.in-Ok.value) (λ d. OfWritten d (λ u. IsReadable u → e ≡ error.Memory)) c.in-Ok.ensures.value h) c.unit_of_borrowed.ensures.is_read
 
-pub returns-in-Err-clause-refused : goal.returns-in-Err-clause-refused
-returns-in-Err-clause-refused c = no-json c.args.text.now c.in-Err.fault c.in-Err.ensures.refused
+pub returns-clause-refused : goal.returns-clause-refused
+returns-clause-refused c = no-json c.args.text.now c.in-Err.fault c.in-Err.ensures.refused
 
-pub returns-in-Err-clause-is_read : goal.returns-in-Err-clause-is_read
-returns-in-Err-clause-is_read c = no-value c.args.text.now c.in-Err.fault c.in-Err.ensures.refused
+pub returns-clause-is_read : goal.returns-clause-is_read
+returns-clause-is_read c = no-value c.args.text.now c.in-Err.fault c.in-Err.ensures.refused
