@@ -1,10 +1,9 @@
-use Rattle.std.proofs.Common.{◌≡◌, Some, None, refl, sym, ap, subst, ◌∙◌}
+use Rattle.std.proofs.Common.{◌≡◌, Some, None, refl, sym, ap, ◌∙◌}
 use Rattle.wesl_link_engine.proofs.Giving.{names_none, more_named, more_unnamed, gives_all, declared, undeclared_stay, undeclared_on}
 use Rattle.std.proofs.lemmas.List.{take_all}
 use Rattle.wesl_tree_names.specs.Path.{path_view}
 use Rattle.wesl_link_tables.specs.TextsView.{numbering_of_texts as numbering}
 use Rattle.wesl_link_engine.specs.GivenView.{given}
-use Rattle.wesl_link_engine.specs.Recording.{RecordsName}
 use Rattle.wesl_link_engine.specs.Recorded.{all_written, writes_of, firsts, declared_texts}
 use Rattle.wesl_link_engine.proofs.Recording as recording
 use Rattle.wesl_link_symbols.specs.declared.ids.PathId.{PathId}
@@ -30,7 +29,7 @@ loop-declaration-preserved g c =
                 recording.more_named (numbering c.args.numbers.now) c.args.numbers.now.names.different (g.M.Mangler.name_of c.args.mangler.now) (path_view c.args.path.now) c.args.table.now.path (g.M.Mangler.writes c.args.mangler.now) (g.M.Mangler.recorded c.args.mangler.now) (given c.args.self.now) none
                 _ _ _ c.loop-declaration-test.true c.declaration-item.is _ _ _ w.path.ensures w.in-Some.ensures w.in-Some-name.ensures.found
                 (recording.texts_of (numbering c.args.numbers.now) c.args.table.now c.requires.numbered _ c.loop-declaration.declaration-index c.declarations-declaration-items.ensures)
-                _ _ c.loop-declaration.invariant.names _ _ _ (c.loop-declaration.invariant.same _ _) (subst (λ b. RecordsName b _ _ _ _ _ _) c.loop-declaration.invariant.same_writing w.in_ok-add_name.ensures.recorded) (c.loop-declaration.invariant.recorded none);
+                _ _ c.loop-declaration.invariant.names _ _ _ (c.loop-declaration.invariant.same _ _) _ c.loop-declaration.invariant.same_writing w.in_ok-add_name.ensures.recorded (c.loop-declaration.invariant.recorded none);
             same = λ p i. w.in_ok-add_name.ensures.same p i ∙ c.loop-declaration.invariant.same p i;
             same_variants = λ ns i n ts. w.in_ok-add_name.ensures.same_variants ns i n ts ∙ c.loop-declaration.invariant.same_variants ns i n ts;
             same_writing = w.in_ok-add_name.ensures.same_writing ∙ c.loop-declaration.invariant.same_writing;
