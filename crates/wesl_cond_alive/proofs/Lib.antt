@@ -18,4 +18,3 @@ pub mod Counted
 pub mod Nested
 pub mod AliveOf
 pub mod Numbers
-pub mod TextSets

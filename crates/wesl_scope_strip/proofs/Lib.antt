@@ -2,4 +2,3 @@ pub mod Marking
 pub mod Stepping
 pub mod Reaching
 pub mod Keeping
-mod Sets

@@ -1,5 +1,4 @@
 pub mod Declarations
 pub mod Marks
-pub mod Sets
 pub mod Steps
 pub mod Forests
