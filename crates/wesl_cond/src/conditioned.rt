@@ -19,7 +19,7 @@ pub fn condition(
     unit: TranslationUnit,
     features: Option<&Features>,
 ) -> Result<TranslationUnit, Error>
-    ensures { IsConditioned (option_copied features) unit result }
+    ensures { IsConditioned (option_copied features.entry) unit result }
 {
     let Some(features) = features else {
         return Ok(unit);

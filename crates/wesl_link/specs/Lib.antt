@@ -9,6 +9,7 @@ pub use Rattle.wesl_link_engine.specs.Given
 pub use Rattle.wesl_link_engine.specs.Laws
 pub use Rattle.wesl_link_engine.specs.Linking as EngineLinking
 pub use Rattle.wesl_link_engine.specs.Reasons
+pub use Rattle.wesl_link_engine.specs.Recorded
 pub use Rattle.wesl_link_engine.specs.Resolved
 pub mod Keeping
 pub mod Conditions

@@ -31,12 +31,12 @@ pub fn link_under<R: Resolver + Drop>(
 ) -> Result<Resolutions, Diagnostic>
     requires ready { R.ready resolver }
     requires asked { is_relative (path_view request.now.root.now) ≡ false }
-    ensures linked { IfOk result (FindsLinkLeft R.Resolver resolver (option_copied features) (request_view request.now)) }
+    ensures linked { IfOk result (FindsLinkLeft R.Resolver resolver (option_copied features.entry) (request_view request.now)) }
     ensures kept { IfOk result (λ r. (resolved r).kept ≡ kept_of (request_view request.now)) }
     ensures eager { IfOk result (λ r. (resolved r).is_eager ≡ request.now.is_eager) }
     ensures turns { IfOk result (TakesItsTurns (request_view request.now)) }
     ensures names { IfOk result (λ r. (p : Path) (n : Text) → (resolved r).names p n ≡ n) }
-    ensures refused { IfErr result (TellsRefusalOfLeft R.Resolver resolver (option_copied features) (request_view request.now)) }
+    ensures refused { IfErr result (TellsRefusalOfLeft R.Resolver resolver (option_copied features.entry) (request_view request.now)) }
 {
     let judge = |unit: TranslationUnit|
         ensures { IsConditioned (option_copied features) unit result }
@@ -56,12 +56,12 @@ fn link_judged<R: Resolver + Drop, F: Fn(TranslationUnit) -> Result<TranslationU
     requires asked { is_relative (path_view request.now.root.now) ≡ false }
     requires callable { F.IsAlwaysCallable judge }
     requires judges { (given : TranslationUnit) (answer : Result TranslationUnit error.Error) → F.post judge given answer ↔ IsConditioned (option_copied features) given answer }
-    ensures linked { IfOk result (FindsLinkLeft R.Resolver resolver (option_copied features) (request_view request.now)) }
+    ensures linked { IfOk result (FindsLinkLeft R.Resolver resolver (option_copied features.entry) (request_view request.now)) }
     ensures kept { IfOk result (λ r. (resolved r).kept ≡ kept_of (request_view request.now)) }
     ensures eager { IfOk result (λ r. (resolved r).is_eager ≡ request.now.is_eager) }
     ensures turns { IfOk result (TakesItsTurns (request_view request.now)) }
     ensures names { IfOk result (λ r. (p : Path) (n : Text) → (resolved r).names p n ≡ n) }
-    ensures refused { IfErr result (TellsRefusalOfLeft R.Resolver resolver (option_copied features) (request_view request.now)) }
+    ensures refused { IfErr result (TellsRefusalOfLeft R.Resolver resolver (option_copied features.entry) (request_view request.now)) }
 {
     let mut judged = Preprocessor::new(resolver, judge);
     link_at(alloc, request, &mut judged)

@@ -110,10 +110,10 @@ pub fn link_mapped<R: Resolver + Drop, M: Mangler + Drop>(
 ) -> Result<Mapped, Diagnostic>
     requires ready { R.ready mapper.resolver }
     requires asked { is_relative (path_view request.now.root.now) ≡ false }
-    ensures mapped { IfOk result (MapsLeft R.Resolver M.Mangler (option_copied features) mapper (request_view request.now) mangle_root) }
+    ensures mapped { IfOk result (MapsLeft R.Resolver M.Mangler (option_copied features.entry) mapper (request_view request.now) mangle_root) }
     ensures sources { IfOk result (λ made. GainsSourcesOf R.Resolver mapper made.map) }
     ensures default { IfOk result (λ made. ShowsRoot (path_view mapper.root) (default_text mapper.sourcemap) made.map) }
-    ensures refused { IfErr result (TellsRefusalOfLeft R.Resolver mapper.resolver (option_copied features) (request_view request.now)) }
+    ensures refused { IfErr result (TellsRefusalOfLeft R.Resolver mapper.resolver (option_copied features.entry) (request_view request.now)) }
 {
     match find_mapped(alloc, request, mapper, features) {
         Ok(found) => found.finish(alloc, mangle_root),
@@ -133,11 +133,11 @@ pub fn find_mapped<R: Resolver + Drop, M: Mangler + Drop>(
 ) -> Result<FoundLink<M>, Diagnostic>
     requires ready { R.ready mapper.resolver }
     requires asked { is_relative (path_view request.now.root.now) ≡ false }
-    ensures found { IfOk result (FindsLeft R.Resolver M.Mangler (option_copied features) mapper (request_view request.now)) }
+    ensures found { IfOk result (FindsLeft R.Resolver M.Mangler (option_copied features.entry) mapper (request_view request.now)) }
     ensures sources { IfOk result (λ found. GainsSourcesOf R.Resolver mapper found.mapper.sourcemap) }
     ensures default { IfOk result (λ found. default_of found ≡ default_text mapper.sourcemap) }
     ensures root { IfOk result (λ found. root_of found ≡ path_view mapper.root) }
-    ensures refused { IfErr result (TellsRefusalOfLeft R.Resolver mapper.resolver (option_copied features) (request_view request.now)) }
+    ensures refused { IfErr result (TellsRefusalOfLeft R.Resolver mapper.resolver (option_copied features.entry) (request_view request.now)) }
 {
     let judge = |unit: TranslationUnit|
         ensures { IsConditioned (option_copied features) unit result }
@@ -161,11 +161,11 @@ fn find_judged<
     requires asked { is_relative (path_view request.now.root.now) ≡ false }
     requires callable { F.IsAlwaysCallable judge }
     requires judges { (given : TranslationUnit) (answer : Result TranslationUnit error.Error) → F.post judge given answer ↔ IsConditioned (option_copied features) given answer }
-    ensures found { IfOk result (FindsLeft R.Resolver M.Mangler (option_copied features) mapper (request_view request.now)) }
+    ensures found { IfOk result (FindsLeft R.Resolver M.Mangler (option_copied features.entry) mapper (request_view request.now)) }
     ensures sources { IfOk result (λ found. GainsSourcesOf R.Resolver mapper found.mapper.sourcemap) }
     ensures default { IfOk result (λ found. default_of found ≡ default_text mapper.sourcemap) }
     ensures root { IfOk result (λ found. root_of found ≡ path_view mapper.root) }
-    ensures refused { IfErr result (TellsRefusalOfLeft R.Resolver mapper.resolver (option_copied features) (request_view request.now)) }
+    ensures refused { IfErr result (TellsRefusalOfLeft R.Resolver mapper.resolver (option_copied features.entry) (request_view request.now)) }
 {
     let SourceMapper {
         root,

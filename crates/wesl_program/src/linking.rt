@@ -82,8 +82,8 @@ fn find_recorded<R: Resolver + Drop>(
 ) -> Result<FoundLink<BundleMangler>, Diagnostic>
     requires ready { R.ready resolver }
     requires asked { is_relative (path_view root) ≡ false }
-    ensures found { IfOk result (FindsUnrecorded R.Resolver resolver (option_copied features) root (map string_bytes keep.now) options) }
-    ensures refused { IfErr result (RefusesToRecord R.Resolver resolver (option_copied features) root (map string_bytes keep.now) options) }
+    ensures found { IfOk result (FindsUnrecorded R.Resolver resolver (option_copied features.entry) root (map string_bytes keep.now) options) }
+    ensures refused { IfErr result (RefusesToRecord R.Resolver resolver (option_copied features.entry) root (map string_bytes keep.now) options) }
 {
     let keep = names(alloc, keep)?;
     let naming = BundleMangler {
