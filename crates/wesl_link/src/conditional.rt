@@ -39,7 +39,7 @@ pub fn link_under<R: Resolver + Drop>(
     ensures refused { IfErr result (TellsRefusalOfLeft R.Resolver resolver (option_copied features.entry) (request_view request.now)) }
 {
     let judge = |unit: TranslationUnit|
-        ensures { IsConditioned (option_copied features) unit result }
+        ensures { IsConditioned (option_copied features.entry) unit result }
     { condition(alloc, unit, features) };
     link_judged(alloc, request, resolver, judge, features)
 }

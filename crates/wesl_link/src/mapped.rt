@@ -140,7 +140,7 @@ pub fn find_mapped<R: Resolver + Drop, M: Mangler + Drop>(
     ensures refused { IfErr result (TellsRefusalOfLeft R.Resolver mapper.resolver (option_copied features.entry) (request_view request.now)) }
 {
     let judge = |unit: TranslationUnit|
-        ensures { IsConditioned (option_copied features) unit result }
+        ensures { IsConditioned (option_copied features.entry) unit result }
     { condition(alloc, unit, features) };
     find_judged(alloc, request, mapper, judge, features)
 }

@@ -3,12 +3,14 @@ use Rattle.wesl_tree_names.specs.Path.{path_view}
 use Rattle.wesl_source_map_entries.specs.Records.{SameSources}
 use Rattle.wesl_source_map_entries.specs.Held.{source_or}
 use Rattle.wesl_source_map.specs.BasicView.{items, sources, default_text}
+use Rattle.wesl_link_engine.specs.Resolved.{writes}
+use Rattle.wesl_link.specs.Keeping.{modules_of}
 use Rattle.wesl_link.proofs.Recorded.{recorded_in, shows_root}
 use Rattle.wesl_link.proofs.mapped.FoundLink.finish.Goals as goal
 
 pub returns-in-Ok-clause-recorded : goal.returns-in-Ok-clause-recorded
 returns-in-Ok-clause-recorded g c =
-    recorded_in _ (items c.args.self.mapper.sourcemap) (items c.take_decls.result) (items c.mangle.new.mangler.sourcemap) (items c.with_sources_of.result) (items c.in-Ok.map)
+    recorded_in (writes (g.M.Mangler.name_of c.args.self.mapper.mangler) c.args.mangle_root (modules_of c.args.self.resolutions)) (items c.args.self.mapper.sourcemap) (items c.take_decls.result) (items c.mangle.new.mangler.sourcemap) (items c.with_sources_of.result) (items c.in-Ok.map)
     c.take_decls.ensures.decls c.in_ok-mangle.ensures.recorded c.with_sources_of.ensures.decls c.in-Ok.ensures.decls
 
 pub returns-in-Ok-clause-sources : goal.returns-in-Ok-clause-sources
