@@ -5,7 +5,7 @@ use Rattle.std.proofs.Common.{◌≡◌, ◌⊎◌, ℕ, List, Bool, true, false
 use Rattle.serde_json.specs.Data.{Data}
 use Rattle.wesl_tree_syntax.specs.Unit.{UnitOf}
 use Rattle.wesl_tree_names.specs.Path.{Text, Path}
-use Rattle.wesl_tree_names.specs.Errors.{IsModuleNotFound, IsRefusedWith, OrMemory, error_of_resolve}
+use Rattle.wesl_tree_names.specs.Errors.{IsModuleNotFound, IsRefusedWith, OrMemory, error_of_resolve, is_memory}
 use Rattle.wesl_tree_names.specs.declared.errors.Diagnostic.{Diagnostic, out-Diagnostic}
 use Rattle.wesl_tree_names.specs.declared.errors.Error as error
 use Rattle.wesl_tree_base.specs.declared.faults.CondCompError.{CondCompError}
@@ -101,15 +101,15 @@ tells-condition names (error.BadTree place) f h = absurd h
 tells-condition names (error.BadBundle place) f h = absurd h
 tells-condition names error.Memory f h = absurd h
 
-refused-by : (features : Option Features) (given : TranslationUnit) (e : error.Error) → IsRefusedBy features (unit_view given) e → (e ≡ error.Memory → ⊥) → IsOfModules (fault_of e)
+refused-by : (features : Option Features) (given : TranslationUnit) (e : error.Error) → IsRefusedBy features (unit_view given) e → is_memory e ≡ false → IsOfModules (fault_of e)
 refused-by features given e h other = elim (refused_tells features (unit_view given) e h) [
-  | inl memory ↦ absurd (other memory)
+  | inl memory ↦ absurd (true≢false (sym (ap is_memory memory) ∙ other))
   | inr told ↦ tells-condition told.0 e told.1 told.2
 ]
 
 -- one refusal deeper, as a fault of a condition is handed on
-handed-on : (features : Option Features) (given : TranslationUnit) (e : error.Error) → IsHandedOn (IsRefusedBy features (unit_view given)) e → (e ≡ error.Memory → ⊥) → IsOfModules (fault_of e)
-handed-on features given e (fault, by, inl memory) other = absurd (other memory)
+handed-on : (features : Option Features) (given : TranslationUnit) (e : error.Error) → IsHandedOn (IsRefusedBy features (unit_view given)) e → is_memory e ≡ false → IsOfModules (fault_of e)
+handed-on features given e (fault, by, inl memory) other = absurd (true≢false (sym (ap is_memory memory) ∙ other))
 handed-on features given e (fault, by, inr held) other =
     subst (λ x. IsOfModules (fault_of x)) (sym held.1) (refused-with _ (λ inner f. refused-by features given inner (subst (IsRefusedBy features (unit_view given)) (sym f.0) by) f.1) held.0 held.2)
 
