@@ -1,6 +1,6 @@
 -- Numbers of texts, a byte after the other.
 use Rattle.std.specs.Prelude.{ℕ, ◌+◌, ◌*◌, ◌%◌, ◌^◌, List, [], ◌∷◌}
-use Rattle.wesl_tree_names.specs.Path.{Text}
+use Rattle.wesl_tree.specs.Path.{Text}
 
 -- what is wrapped to 64 bits
 abbrev pub wrapped : ℕ → ℕ

@@ -6,6 +6,7 @@ use wesl_mangle::PathHash;
 use wesl_tree::ModulePath;
 
 /// Goes on with a number by the bytes of a name.
+#[tactic(auto, using(crate::proofs::Hashing::hash_text_next, crate::proofs::Hashing::hash_text_all))]
 fn hash_name(start: u64, name: &str) -> u64
     ensures { result ≡ hash_text start name.now }
 {
@@ -21,10 +22,9 @@ fn hash_name(start: u64, name: &str) -> u64
 pub struct ByBytes;
 
 impl PathHash for ByBytes {
-    ghost use Rattle.wesl_example_traits.specs.Hash.{hash_text, hash_texts};
-
     ghost hash_of = { λ _ p i. hash_text (hash_texts 7 p.components) i };
 
+    #[tactic(auto, using(crate::proofs::Hashing::hash_texts_next, crate::proofs::Hashing::hash_texts_all))]
     fn hash(&self, path: &ModulePath, item: &str) -> u64 {
         let mut number = 7;
         for name in &path.components {

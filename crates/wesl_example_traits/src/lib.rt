@@ -1,5 +1,5 @@
-//! Types of a caller's own that are what the linker asks for: a mangler, numbers of items, text forms, a visitor, a rewriter
-//! and a source map.
+//! Types of a caller's own that are what the linker asks for: a mangler, numbers of items, text forms, a visitor, a
+//! rewriter and a source map.
 #![tactic(auto)]
 
 mod hash;

@@ -5,8 +5,8 @@ use std::alloc::Global;
 use wesl_mangle::Mangler;
 use wesl_tree::{Error, ModulePath, Names, TypeExpression};
 
-/// Gives the names of another mangler with a text before each, as a library does whose names are to be told from others.
-/// It reads no name back.
+/// Gives the names of another mangler with a text before each, as a library does whose names are to be told from
+/// others. It reads no name back.
 #[derive(Drop)]
 pub struct Prefixed<M> {
     /// the text

@@ -14,8 +14,6 @@ pub struct Both<A, B> {
 }
 
 impl<A: SourceMap, B: SourceMap> SourceMap for Both<A, B> {
-    ghost use Rattle.wesl_example_traits.specs.Chosen.{first_of};
-
     ghost decl_of = { λ m name. first_of (A.decl_of m.first name) (B.decl_of m.second name) };
 
     ghost source_of = { λ m path. first_of (A.source_of m.first path) (B.source_of m.second path) };

@@ -1,7 +1,7 @@
 //! A rewriter of one's own: it takes paths away.
 ghost use Rattle.std.specs.Prelude.{◌≡◌, ℕ, true, IfErr};
-ghost use Rattle.wesl_tree.specs.Errors.{is_memory};
-ghost use Rattle.wesl_tree_syntax.specs.Tree.{tree_below};
+ghost use Rattle.wesl_tree.specs.Tree.{tree_below};
+ghost use Rattle.wesl_tree.specs.declared.Error as error;
 
 use std::alloc::Global;
 use wesl_tree::{Error, TranslationUnit, TypeExpression};
@@ -22,7 +22,7 @@ impl Rewrite<TypeExpression> for Shorten {
 
 /// Takes the paths away from all that a unit refers to. Refused for want of memory alone.
 pub fn drop_paths(alloc: Global, unit: &mut TranslationUnit) -> Result<(), Error>
-    ensures refused { IfErr result (λ e. is_memory e ≡ true) }
+    ensures refused { IfErr result (λ e. e ≡ error.Memory) }
 {
     unit.rewrite_rec(alloc, &mut Shorten)
 }

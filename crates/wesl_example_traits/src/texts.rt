@@ -1,5 +1,5 @@
 //! Text forms of one's own: one that is read alone, and one that stands over another.
-ghost use Rattle.std.specs.Prelude.{◌≤◌, length};
+ghost use Rattle.std.specs.Prelude.{◌≤◌, ◌<◌, ◌⊎◌, length};
 
 use std::alloc::Global;
 use wesl_json::JsonText;
@@ -41,7 +41,7 @@ pub struct Bounded<F> {
 impl<F: UnitText> UnitText for Bounded<F> {
     ghost reads = { λ s text u. (length text ≤ s.most) × F.reads s.inner text u };
 
-    ghost unreadable = { λ _ text e. Unit {0} };
+    ghost unreadable = { λ s text e. (s.most < length text) ⊎ F.unreadable s.inner text e };
 
     ghost prints = { λ s u text. F.prints s.inner u text };
 

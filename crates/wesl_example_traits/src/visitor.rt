@@ -1,6 +1,7 @@
 //! A visitor of one's own: it counts the types and names that it meets.
 ghost use Rattle.std.specs.Prelude.{◌≡◌, ◌+◌, IfErr};
-ghost use Rattle.wesl_tree.specs.Errors.{is_memory};
+ghost use Rattle.std.proofs.Common.{refl};
+ghost use Rattle.wesl_tree.specs.declared.Error as error;
 
 use std::alloc::Global;
 use wesl_tree::{Error, TranslationUnit, TypeExpression};
@@ -13,8 +14,6 @@ struct Counter {
 }
 
 impl Visitor<TypeExpression> for Counter {
-    ghost use Rattle.std.proofs.Common.{refl};
-
     ghost meets = { λ old node new. new.count ≡ old.count + 1 };
 
     ghost unchanged = { λ old new. new.count ≡ old.count };
@@ -32,10 +31,10 @@ impl Visitor<TypeExpression> for Counter {
     ghost stays = { λ visitor. refl };
 }
 
-/// How many types and names a unit uses, those of its conditions left out. Refused for want of memory, and where there are
-/// 2^32.
+/// How many types and names a unit uses, those of its conditions left out. Refused for want of memory, and where there
+/// are 2^32.
 pub fn count_uses(alloc: Global, unit: &TranslationUnit) -> Result<u32, Error>
-    ensures refused { IfErr result (λ e. is_memory e ≡ true) }
+    ensures refused { IfErr result (λ e. e ≡ error.Memory) }
 {
     let mut counter = Counter { count: 0 };
     unit.visit_rec(alloc, &mut counter)?;

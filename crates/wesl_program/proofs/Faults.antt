@@ -1,11 +1,11 @@
 -- The fault of a module that is refused is none of the bundle that holds it.
 use Rattle.std.specs.Option.{option_map}
-use Rattle.std.specs.Prelude.{string_bytes}
+use Rattle.std.specs.Prelude.{if◌then◌else◌, string_bytes}
 use Rattle.std.proofs.Common.{◌≡◌, ◌⊎◌, ℕ, List, Bool, true, false, true≢false, Option, Some, None, Result, Ok, Err, bytes_eq, codes, refl, sym, ap, ◌∙◌, subst, inl, inr}
 use Rattle.serde_json.specs.Data.{Data}
 use Rattle.wesl_tree_syntax.specs.Unit.{UnitOf}
 use Rattle.wesl_tree_names.specs.Path.{Text, Path}
-use Rattle.wesl_tree_names.specs.Errors.{IsModuleNotFound, IsRefusedWith, OrMemory, error_of_resolve, is_memory}
+use Rattle.wesl_tree_names.specs.Errors.{IsModuleNotFound, IsRefusedWith, OrMemory, error_of_resolve, is_memory, resolver_is_memory}
 use Rattle.wesl_tree_names.specs.declared.errors.Diagnostic.{Diagnostic, out-Diagnostic}
 use Rattle.wesl_tree_names.specs.declared.errors.Error as error
 use Rattle.wesl_tree_base.specs.declared.faults.CondCompError.{CondCompError}
@@ -116,11 +116,12 @@ handed-on features given e (fault, by, inr held) other =
 left : (features : Option Features) (hands : UnitOf Text → Type 0) (p : Path) (e : resolve_error.ResolveError) → RefusesLeft features hands p e → IsOfModules (fault_of_resolver e)
 left features hands p e h = refused-with _ (λ fault f. handed-on features h.0 fault f.0 f.1) e h.2.2.0
 
+wrapped-unless : (is_wanting : Bool) (e : resolve_error.ResolveError) → IsOfModules (fault_of_resolver e) → IsModuleFault (if is_wanting then error.Memory else error.Import (import_error.ResolveError e))
+wrapped-unless true e h = inl refl
+wrapped-unless false e h = inr h
+
 wrapped : (e : resolve_error.ResolveError) → IsOfModules (fault_of_resolver e) → IsModuleFault (error_of_resolve e)
-wrapped (resolve_error.Error' at inner declaration place display span source) h = inr h
-wrapped (resolve_error.ModuleNotFound q text) h = inr h
-wrapped (resolve_error.FileNotFound file text) h = inr h
-wrapped resolve_error.Memory h = inl refl
+wrapped e h = wrapped-unless (resolver_is_memory e) e h
 
 or-memory : (P : resolve_error.ResolveError → Type 0) → ((e : resolve_error.ResolveError) → P e → IsOfModules (fault_of_resolver e)) → (e : resolve_error.ResolveError) → OrMemory P e → IsModuleFault (error_of_resolve e)
 or-memory P of e (inl is) = subst (λ x. IsModuleFault (error_of_resolve x)) (sym is) (inl refl)

@@ -37,4 +37,4 @@ returns-in_err-keep-clause-refused g c =
 
 pub returns-in_err-try_clone-clause-refused : goal.returns-in_err-try_clone-clause-refused
 returns-in_err-try_clone-clause-refused g c =
-    IfErr-weaker c.from_residual.result (IsBare error.Memory) _ (λ d is. inl (resolve_error.Memory, inl refl, is)) (search rules)
+    IfErr-weaker c.from_residual-in_err-try_clone.result (IsBare error.Memory) _ (λ d is. inl (resolve_error.Memory, inl refl, is)) (search rules)
