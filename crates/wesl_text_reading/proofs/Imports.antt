@@ -41,7 +41,10 @@ slashed_all a (b ∷ ws) ts vs xs h q =
     let y : (us : List Token) × (ts ≡ name a ∷ us) × (left (signed is.Slash ∷ parted is.Slash (b ∷ ws)) us ≡ Some vs) = must_first (name a) (signed is.Slash ∷ parted is.Slash (b ∷ ws)) ts vs h in
     let z : (us : List Token) × (y.0 ≡ symbol is.Slash ∷ us) × (left (parted is.Slash (b ∷ ws)) us ≡ Some vs) = must_first (symbol is.Slash) (parted is.Slash (b ∷ ws)) y.0 vs y.2 in
     let e : ts ≡ name a ∷ symbol is.Slash ∷ z.0 = y.1 ∙ ap (λ s. name a ∷ s) z.1 in
-    (ap (λ s. begins_path true s) e, ap slashed e ∙ ap (λ s. let p : Text × List Token = (a ++ slash ∷ s.0, s.1) in p) (slashed_all b ws z.0 vs xs z.2 q).1)
+    more z.0 e (slashed_all b ws z.0 vs xs z.2 q) where
+      more : (us : List Token) → ts ≡ name a ∷ symbol is.Slash ∷ us → (begins_path true us ≡ true) × (slashed us ≡ (with_between slash (b ∷ ws), symbol is.ColonColon ∷ xs)) → (begins_path true ts ≡ true) × (slashed ts ≡ (with_between slash (a ∷ b ∷ ws), symbol is.ColonColon ∷ xs))
+      more (name u ∷ us) e g = (ap (λ s. begins_path true s) e, ap slashed e ∙ ap (λ s. let p : Text × List Token = (a ++ slash ∷ s.0, s.1) in p) g.1)
+      more us e g = absurd (no_true g.0)
 
 -- a name of free words between slashes is none of these
 not_among : (q u : Text) → are_free (cut slash q) ≡ true → are_free (cut slash u) ≡ false → bytes_eq q u ≡ false
