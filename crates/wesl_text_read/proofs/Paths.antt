@@ -384,4 +384,3 @@ path_boxed {s} {m} {e} p (Some b) h read same refused =
     subst (λ z. Reads (may_at s.levels (leaf (a_path false) nothing)) (optional boxed_path (Some b)) s z) (sym same.1)
     (subst (λ z. Leads (λ _. may_at s.levels (leaf (a_path false) nothing) (ahead s)) (λ ns. Some (respell (name_in ns) (branch present (path_tree z ∷ [])), ahead m)) s m) (sym same.0)
     (seen (λ ns. ap (may_by s.levels (ahead s)) h) (λ ns. refl) (under (λ ns (r : Read SpelledLabel). after (after r (λ l us. and_others (tree_leaf l) (Some (end, us)))) (λ f us. let q : Read (TreeOf Text) = Some (node_of (kind present) f, us) in q)) (λ ns. refl) read)))
-
