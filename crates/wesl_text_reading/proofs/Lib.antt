@@ -35,3 +35,12 @@ pub mod Bodies
 pub mod Levels
 pub mod Declarations
 pub mod Units
+pub mod TakenApart
+pub mod Apart
+pub mod LeavesSaid
+pub mod TokensAre
+pub mod PathsSaid
+pub mod RowsSaid
+pub mod NodesSaid
+pub mod ExpressionsSaid
+pub mod Said

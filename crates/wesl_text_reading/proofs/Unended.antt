@@ -22,10 +22,10 @@ ends_with (target row) = ends_with row
 ends_with _ = false
 
 -- slots, and `;` behind them
-abbrev with_end : Slots → Slots
+abbrev pub with_end : Slots → Slots
 with_end o = option_map (λ ss. ss ++ signed is.Semicolon ∷ []) o
 
-joined_again : (a b c : List Slot) → (a ++ b) ++ c ≡ a ++ (b ++ c)
+pub joined_again : (a b c : List Slot) → (a ++ b) ++ c ≡ a ++ (b ++ c)
 joined_again [] b c = refl
 joined_again (x ∷ a) b c = ap (λ z. x ∷ z) (joined_again a b c)
 

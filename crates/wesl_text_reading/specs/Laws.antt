@@ -1,10 +1,11 @@
--- What is promised of the reading: what is said is read, and one text says one tree.
-use Rattle.std.specs.Prelude.{◌≡◌, ◌≤◌, ℕ, Bool, true, false, List, [], Some}
+-- What is promised of the reading: what is said is read, what is read is said, and one text says one tree.
+use Rattle.std.specs.Prelude.{◌≡◌, ◌≤◌, ℕ, Bool, true, false, List, [], ◌∷◌, Some, IsUtf8}
 use Rattle.wesl_tree_names.specs.Path.{Text}
 use Rattle.wesl_tree_syntax.specs.Tree.{TreeOf, end, before}
 use Rattle.wesl_tree_syntax.specs.Unit.{UnitOf, forest_of_unit}
-use Rattle.wesl_text_tokens.specs.Tokens.{Token}
+use Rattle.wesl_text_tokens.specs.Tokens.{Token, name, number, tokens}
 use Rattle.wesl_text_form.specs.Slots.{Slot, left}
+use Rattle.wesl_text_form.specs.Names.{is_word, is_number}
 use Rattle.wesl_text_form.specs.Productions.{Sort, a_bare_expression}
 use Rattle.wesl_text_form.specs.Spelling.{slots_as}
 use Rattle.wesl_text_form.specs.Says.{Says, TextSays, levels}
@@ -40,3 +41,32 @@ TokensSayOneUnit = (ts : List Token) (u v : UnitOf Text) → Says ts u → Says 
 
 abbrev pub TextSaysOneUnit : Type 0
 TextSaysOneUnit = (t : Text) (u v : UnitOf Text) → TextSays t u → TextSays t v → u ≡ v
+
+-- ---- what is read is said
+
+-- whether a token may stand among those of a text: a name is one word, and a number is one number
+abbrev pub is_token : Token → Bool
+is_token (name t) = is_word t
+is_token (number t) = is_number t
+is_token _ = true
+
+-- all of them may
+abbrev pub AreTokens : List Token → Type 0
+AreTokens [] = Unit {0}
+AreTokens (t ∷ ts) = (is_token t ≡ true) × AreTokens ts
+
+-- what such tokens are read as in the place of a sort, to their end, they say
+abbrev pub TreesAreSaid : Type 0
+TreesAreSaid = (s : Sort) (n : ℕ) (ts : List Token) (t : TreeOf Text) → AreTokens ts → reading n s ts ≡ Some (t, []) → SaysAs s ts t
+
+-- the unit that such tokens are read as, they say
+abbrev pub UnitsAreSaid : Type 0
+UnitsAreSaid = (n : ℕ) (ts : List Token) (u : UnitOf Text) → AreTokens ts → reading_of_unit n ts ≡ Some u → Says ts u
+
+-- the tokens of a text of UTF-8, as each string is, are such
+abbrev pub TokensOfTexts : Type 0
+TokensOfTexts = (t : Text) (ts : List Token) → IsUtf8 t → tokens t ≡ Some ts → AreTokens ts
+
+-- the unit that the tokens of such a text are read as, the text says
+abbrev pub TextsAreSaid : Type 0
+TextsAreSaid = (n : ℕ) (t : Text) (ts : List Token) (u : UnitOf Text) → IsUtf8 t → tokens t ≡ Some ts → reading_of_unit n ts ≡ Some u → TextSays t u

@@ -5,6 +5,7 @@ mod character;
 mod comment;
 mod fault;
 mod joining;
+mod laws;
 mod lists;
 mod number;
 mod piece;
@@ -17,6 +18,7 @@ mod token;
 mod tokens;
 
 pub use fault::TokenFault;
+pub use laws::law_of_tokens;
 pub use rows::rows_of_tokens;
 pub use symbol::Symbol;
 pub use token::{PlacedToken, Token};
