@@ -40,3 +40,9 @@ abbrev pub ends_by_write : Result Outcome RunError → Bool
 ends_by_write (Ok outcome) = false
 ends_by_write (Err Input) = false
 ends_by_write (Err Output) = true
+
+-- the status of a program that ends with it
+abbrev pub status_of : Result Outcome RunError → ℕ
+status_of (Ok Linked) = 0
+status_of (Ok Refused) = 1
+status_of (Err fault) = 2

@@ -3,6 +3,7 @@
 #![tactic(auto)]
 
 pub mod condcomp;
+pub mod laws;
 mod program;
 
 pub use program::Outcome;
@@ -10,6 +11,7 @@ pub use program::RunError;
 pub use program::line_of_bytes;
 pub use program::run;
 pub use program::run_noting;
+pub use program::status;
 pub use serde_json::Value;
 pub use wesl_cond::Feature;
 pub use wesl_cond::Features;
@@ -18,6 +20,7 @@ pub use wesl_cond::eval_attr;
 pub use wesl_cond::flag_count;
 pub use wesl_json::JsonText;
 pub use wesl_json::text_of_unit;
+pub use wesl_json::unit_of_text;
 pub use wesl_json::unit_of_value;
 pub use wesl_json::value_of_unit;
 pub use wesl_json::value_of_unit_2;

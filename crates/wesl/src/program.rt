@@ -1,28 +1,49 @@
 //! The program: the bytes of a bundle in, one line out.
 ghost use Rattle.std.specs.Prelude.{◌≡◌, ◌||◌, Err, IfOk, IfErr, is_err};
+ghost use Rattle.std.specs.Process.{exit_status};
 ghost use Rattle.wesl_program.specs.Made.{bytes_of};
 ghost use Rattle.wesl_program.specs.Streams.{IsSameLoan, has_failed, inner};
-ghost use Rattle.wesl.specs.Run.{IsLine, IsLineFor, Wrote, WroteBeginning, ends_by_read, ends_by_write};
+ghost use Rattle.wesl.specs.Run.{IsLine, IsLineFor, Wrote, WroteBeginning, ends_by_read, ends_by_write, status_of};
 
 use std::alloc::Global;
 use std::io::{Read, Write};
+use std::process::ExitCode;
+use thiserror::Error;
 use wesl_program::{
     Line, NotedStream, ReadFault, answer_of_bytes, memory_line, read_whole, refusal_line,
     write_whole,
 };
 
-/// What a line says: the linked unit, whether its names clash and what they stand for, or why there is none.
+/// What a line says.
 #[derive(Clone, Copy, Debug, PartialEq, Eq)]
 pub enum Outcome {
+    /// The linked unit, whether its names clash, and what they stand for.
     Linked,
+    /// Why there is none.
     Refused,
 }
 
-/// Why there is no line: the reader failed, or the writer failed or took no byte.
-#[derive(Clone, Copy, Debug, PartialEq, Eq)]
+/// Why there is no line.
+#[derive(Clone, Copy, Debug, PartialEq, Eq, Error)]
 pub enum RunError {
+    /// A read failed.
+    #[error("a read failed")]
     Input,
+    /// A write failed or took no byte.
+    #[error("a write failed")]
     Output,
+}
+
+/// The status of a program that ends with this run: 0 where a unit was linked, 1 where it was refused, and 2 where a read
+/// or a write failed.
+pub fn status(ended: Result<Outcome, RunError>) -> ExitCode
+    ensures { exit_status result ≡ status_of ended }
+{
+    match ended {
+        Ok(Outcome::Linked) => ExitCode::SUCCESS,
+        Ok(Outcome::Refused) => ExitCode::from(1),
+        Err(RunError::Input | RunError::Output) => ExitCode::from(2),
+    }
 }
 
 /// Reads a bundle whole, links it, and writes its line.

@@ -1,13 +1,7 @@
 -- What a C caller is told of the bytes of a bundle.
-use Rattle.std.specs.Prelude.{◌≡◌, ◌++◌, ℕ, List, take, drop, length}
+use Rattle.std.specs.Prelude.{◌≡◌, ◌++◌, ℕ, List, take, drop, length, Ok}
 use Rattle.wesl.specs.declared.program.Outcome.{Outcome}
-use Rattle.wesl.specs.declared.program.Outcome.TheVariants.{Linked, Refused}
-use Rattle.wesl.specs.Run.{IsLine}
-
--- the status of an outcome
-abbrev pub status_of : Outcome → ℕ
-status_of Linked = 0
-status_of Refused = 1
+use Rattle.wesl.specs.Run.{IsLine, status_of}
 
 -- a line over the beginning of a buffer, as far as there is room; what lies behind it stays
 abbrev pub written_over : List ℕ → List ℕ → List ℕ
@@ -17,4 +11,4 @@ written_over line buffer = take (length buffer) line ++ drop (length line) buffe
 abbrev pub FillsBuffer : List ℕ → ℕ → ℕ → List ℕ → List ℕ → Type 0
 FillsBuffer bytes status needed old new =
     (outcome : Outcome) × (line : List ℕ)
-    × IsLine outcome bytes line × (status ≡ status_of outcome) × (needed ≡ length line) × (new ≡ written_over line old)
+    × IsLine outcome bytes line × (status ≡ status_of (Ok outcome)) × (needed ≡ length line) × (new ≡ written_over line old)

@@ -2,8 +2,9 @@
 //! the call for C.
 #![tactic(auto)]
 
-ghost use Rattle.std.specs.Prelude.{◌≡◌};
-ghost use Rattle.wesl_c.specs.Answers.{FillsBuffer, status_of, written_over};
+ghost use Rattle.std.specs.Prelude.{◌≡◌, Ok};
+ghost use Rattle.wesl.specs.Run.{status_of};
+ghost use Rattle.wesl_c.specs.Answers.{FillsBuffer, written_over};
 
 use std::alloc::Global;
 use wesl::{Outcome, line_of_bytes};
@@ -42,7 +43,7 @@ fn write_over(buffer: &mut [u8], bytes: &[u8])
 
 // What C is told of an outcome.
 fn status(outcome: Outcome) -> u32
-    ensures { result ≡ status_of outcome }
+    ensures { result ≡ status_of (Ok outcome) }
 {
     match outcome {
         Outcome::Linked => 0,

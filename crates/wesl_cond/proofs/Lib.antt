@@ -1,4 +1,4 @@
-mod HandedOn
+pub mod HandedOn
 mod Stages
 mod Spelled
 mod OfFeatures

@@ -1,18 +1,17 @@
 -- What is left of a unit, in stages, again and under choices.
-use Rattle.std.proofs.Common.{◌≡◌, ℕ, inl, inr, List, Result, Err, sym, ap, ◌∙◌, subst}
+use Rattle.std.proofs.Common.{◌≡◌, ℕ, false, List, sym, ap, ◌∙◌, subst}
 use mathlib.Core.Path.{fun_ext}
-use Rattle.wesl_cond_chains.specs.Judging.{Checks, IsClear, RefusesIn}
-use Rattle.wesl_cond_chains.specs.Laws.{RunsInStages, TwiceIsOnce, PicksTheSame, ThenIsInStages, LaterStagesAreFaultless, BothStagesAreFaultless}
+use Rattle.wesl_cond_chains.proofs.Located.{stands_without}
+use Rattle.wesl_cond_chains.specs.Judging.{RefusesIn}
+use Rattle.wesl_cond_chains.specs.Laws.{IsFaultless, RunsInStages, TwiceIsOnce, PicksTheSame, ThenIsInStages, LaterStagesAreFaultless, BothStagesAreFaultless}
 use Rattle.wesl_cond_chains.specs.Picked.{picked_unit}
 use Rattle.wesl_cond_chains.specs.Residual.{residual_unit}
 use Rattle.wesl_cond.specs.Units.{left_of, GoesOn, IsFaultlessUnit, IsLeftOver, AreTwoStages, Picks}
 use Rattle.wesl_cond_unit.specs.Left.{LeavesNoFault}
 use Rattle.wesl_cond_features.specs.Features.{Replies, known, by_number, HoldsNoError, then_replies}
 use Rattle.wesl_tree_names.specs.Path.{Text}
-use Rattle.wesl_tree_names.specs.declared.errors.Diagnostic.{Diagnostic, out-Diagnostic}
-use Rattle.wesl_tree_names.specs.declared.errors.Error as error
-use Rattle.wesl_tree_syntax.specs.Tree.{Forest}
-use Rattle.wesl_tree_syntax.specs.Unit.{UnitView, UnitOf, trees_of, name_in}
+use Rattle.wesl_tree_names.specs.declared.errors.Diagnostic.{Diagnostic}
+use Rattle.wesl_tree_syntax.specs.Unit.{UnitView, UnitOf, forest_of_unit, trees_of, name_in}
 
 abbrev with_trees : List Text → UnitOf ℕ → UnitView
 with_trees names t = record { names = names; imports = t.imports; directives = t.directives; declarations = t.declarations }
@@ -37,12 +36,8 @@ pub picks_same : PicksTheSame → (reply : Replies Text) (before after : UnitVie
 picks_same picks reply before after e = λ choice agrees. ap (λ u. picked_unit choice (trees_of u)) e ∙ picks (known (by_number before.names reply)) choice (trees_of before) agrees
 
 -- Faults.
-not_clear : (names : List Text) (reply : Replies ℕ) (trees : Forest) (e : error.Error) → RefusesIn names reply trees e → IsClear reply trees → ⊥
-not_clear names reply trees e (inl h) clear = h.1 clear
-not_clear names reply trees e (inr h) clear = clear h.0 h.1
-
-pub err_not_clear : {A : Type 0} (names : List Text) (reply : Replies ℕ) (trees : Forest) (r : Result A Diagnostic) (e : Diagnostic) → r ≡ Err e → Checks names reply trees r → IsClear reply trees → ⊥
-err_not_clear names reply trees r e is h clear = not_clear names reply trees (out-Diagnostic e).error (subst (Checks names reply trees) is h) clear
+pub not_faultless : (names : List Text) (reply : Replies ℕ) (u : UnitOf ℕ) (told : Diagnostic) → RefusesIn names reply (forest_of_unit u) told → IsFaultless reply u → ⊥
+not_faultless names reply u told h faultless = faultless h.0.fault (stands_without reply false (forest_of_unit u) h.0 h.1)
 
 pub left_over_faultless : LaterStagesAreFaultless → (second : Replies Text) (before : UnitView) → HoldsNoError second → IsLeftOver before → IsFaultlessUnit second before
 left_over_faultless later second before h left =

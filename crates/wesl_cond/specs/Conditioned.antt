@@ -1,6 +1,7 @@
 -- What features leave of a unit; without features no condition is judged.
 use Rattle.std.specs.Prelude.{◌≡◌, ◌⊎◌, Option, Some, None, Result, Ok, Err}
 use Rattle.wesl_tree_names.specs.Errors.{IsRefusedFor}
+use Rattle.wesl_tree_names.specs.declared.errors.Diagnostic.{Diagnostic, out-Diagnostic}
 use Rattle.wesl_tree_names.specs.declared.errors.Error as error
 use Rattle.wesl_tree_names.specs.declared.errors.ResolveError.{ResolveError}
 use Rattle.wesl_tree_syntax.specs.Unit.{UnitView}
@@ -15,10 +16,10 @@ abbrev pub IsLeft : Option Features → UnitView → UnitView → Type 0
 IsLeft None before after = after ≡ before
 IsLeft (Some features) before after = IsFaultlessUnit (answer_to features) before × (after ≡ left_of (answer_to features) before)
 
--- a fault tells what is wrong with a condition that stands
+-- an error is that of a diagnostic that tells a fault of a condition
 abbrev pub IsRefusedBy : Option Features → UnitView → error.Error → Type 0
 IsRefusedBy None before e = ⊥
-IsRefusedBy (Some features) before e = RefusesUnit (answer_to features) before e
+IsRefusedBy (Some features) before e = (told : Diagnostic) × RefusesUnit (answer_to features) before told × ((out-Diagnostic told).error ≡ e)
 
 -- such a fault, handed on in the refusal that a resolver makes of it, or as want of memory
 abbrev pub IsHandedOn : (error.Error → Type 0) → error.Error → Type 0

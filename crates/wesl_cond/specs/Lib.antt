@@ -1,2 +1,12 @@
+pub use Rattle.wesl_cond_features.specs.Features
+pub use Rattle.wesl_cond_chains.specs.FormulaFaults
+pub use Rattle.wesl_cond_chains.specs.Places
+pub use Rattle.wesl_cond_chains.specs.Evaluation
+pub use Rattle.wesl_cond_chains.specs.Judging
+pub use Rattle.wesl_cond_chains.specs.Laws
+pub use Rattle.wesl_cond_unit.specs.Left
+pub use Rattle.wesl_cond_alive.specs.Choices
+pub use Rattle.wesl_cond_alive.specs.Positions
 pub mod Conditioned
+pub mod Formula
 pub mod Units

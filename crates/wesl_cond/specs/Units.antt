@@ -8,16 +8,16 @@ use Rattle.wesl_cond_chains.specs.Picked.{Choice, picked_unit}
 use Rattle.wesl_cond_chains.specs.Residual.{residual_unit}
 use Rattle.wesl_cond_features.specs.Features.{Replies, known, by_number, HoldsNoError, then_replies}
 use Rattle.wesl_tree_names.specs.Path.{Text}
-use Rattle.wesl_tree_names.specs.declared.errors.Error as error
+use Rattle.wesl_tree_names.specs.declared.errors.Diagnostic.{Diagnostic}
 use Rattle.wesl_tree_syntax.specs.Unit.{UnitView, trees_of, forest_of_unit, spelled}
 
 -- no fault of a condition stands in a unit
 abbrev pub IsFaultlessUnit : Replies Text → UnitView → Type 0
 IsFaultlessUnit reply u = IsFaultless (by_number u.names reply) (trees_of u)
 
--- an error tells a fault that stands in a unit, or memory is wanting to tell one
-abbrev pub RefusesUnit : Replies Text → UnitView → error.Error → Type 0
-RefusesUnit reply u e = RefusesIn u.names (by_number u.names reply) (forest_of_unit (trees_of u)) e
+-- a diagnostic tells a fault that stands in a unit, with its span and nothing else, or that memory is wanting to tell it
+abbrev pub RefusesUnit : Replies Text → UnitView → Diagnostic → Type 0
+RefusesUnit reply u told = RefusesIn u.names (by_number u.names reply) (forest_of_unit (trees_of u)) told
 
 -- Whatever an earlier stage without refusals left a unit of, this one goes on with it: what is left now is what both in one leave.
 abbrev pub GoesOn : Replies Text → UnitView → UnitView → Type 0

@@ -1,5 +1,5 @@
 //! What features leave of a unit.
-ghost use Rattle.std.specs.Prelude.{◌≡◌};
+ghost use Rattle.std.specs.Prelude.{◌≡◌, option_copied};
 ghost use Rattle.wesl_cond.specs.Conditioned.{IsConditioned, IsHandedOn};
 ghost use Rattle.wesl_tree_names.specs.declared.errors.Diagnostic.{out-Diagnostic};
 
@@ -17,9 +17,9 @@ use wesl_tree_names::{Diagnostic, Error, ResolveError};
 pub fn condition(
     alloc: Global,
     unit: TranslationUnit,
-    features: &Option<Features>,
+    features: Option<&Features>,
 ) -> Result<TranslationUnit, Error>
-    ensures { IsConditioned features.now unit result }
+    ensures { IsConditioned (option_copied features.entry) unit result }
 {
     let Some(features) = features else {
         return Ok(unit);
@@ -35,11 +35,12 @@ pub fn condition(
 fn handed_on(alloc: Global, told: Diagnostic) -> Error
     ensures { IsHandedOn (λ fault. fault ≡ (out-Diagnostic told).error) result }
 {
-    match &told.error {
-        Error::Memory => Error::Memory,
-        _ => match Box::new(alloc, told) {
+    if told.error.is_memory() {
+        Error::Memory
+    } else {
+        match Box::new(alloc, told) {
             Ok(told) => Error::Resolve(ResolveError::Error(told)),
             Err(_) => Error::Memory,
-        },
+        }
     }
 }

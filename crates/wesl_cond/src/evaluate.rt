@@ -1,12 +1,6 @@
 //! What is left of the formula of a conditional attribute.
 ghost use Rattle.std.specs.Prelude.{◌≡◌, [], IfOk, IfErr};
-ghost use Rattle.wesl_cond_chains.specs.Evaluation.{IsRefused};
-ghost use Rattle.wesl_cond_chains.specs.FormulaFaults.{formula_faults};
-ghost use Rattle.wesl_cond_features.specs.Features.{known};
-ghost use Rattle.wesl_cond_chains.specs.Formulas.{form, written};
-ghost use Rattle.wesl_cond_chains.specs.FormulaResidual.{residual};
-ghost use Rattle.wesl_cond_chains.specs.Nodes.{replies};
-ghost use Rattle.wesl_tree_names.specs.declared.errors.Diagnostic.{out-Diagnostic};
+ghost use Rattle.wesl_cond.specs.Formula.{RefusesFormula, faults_of_formula, left_of_formula};
 ghost use Rattle.wesl_tree_syntax.specs.View.{expression_view};
 
 use std::alloc::Global;
@@ -20,16 +14,17 @@ use wesl_tree_syntax::{Expression, ExpressionNode};
 ///
 /// It is refused where a flag has template arguments or is answered by a refusal, and where an expression is none of
 /// `true`, `false`, a flag, parentheses, `!`, `&&` and `||`, in any part of the formula; and for want of memory. The
-/// diagnostic of a fault tells the span of the expression at fault.
+/// diagnostic of a fault tells the span of the expression at fault, unless that is `0..0`, and neither a module nor a
+/// declaration.
 pub fn eval_attr(
     alloc: Global,
     names: &Names,
     expression: &ExpressionNode,
     features: &Features,
 ) -> Result<Expression, Diagnostic>
-    ensures left { IfOk result (λ left. expression_view left ≡ written (residual (known (replies names.now features.now)) (form (expression_view expression.now.node)))) }
-    ensures faultless { IfOk result (λ _. formula_faults (replies names.now features.now) (form (expression_view expression.now.node)) ≡ []) }
-    ensures refused { IfErr result (λ told. IsRefused names.now (formula_faults (replies names.now features.now) (form (expression_view expression.now.node))) (out-Diagnostic told).error) }
+    ensures left { IfOk result (λ left. expression_view left ≡ left_of_formula names.now features.now expression.now) }
+    ensures faultless { IfOk result (λ _. faults_of_formula names.now features.now expression.now ≡ []) }
+    ensures refused { IfErr result (RefusesFormula names.now features.now expression.now) }
 {
     check_formula(alloc, expression, names, features)?;
     let mut copying = Copying::of(alloc);

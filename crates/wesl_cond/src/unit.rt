@@ -2,7 +2,6 @@
 ghost use Rattle.std.specs.Prelude.{◌≡◌, IfOk, IfErr, IsOk};
 ghost use Rattle.wesl_cond.specs.Units.{left_of, AreSpelledTwoStages, AreTwoStages, GoesOn, GoesOnSpelled, IsFaultlessUnit, IsLeftOver, IsSpelledLeftOver, Picks, RefusesUnit};
 ghost use Rattle.wesl_cond_features.specs.Features.{answer_to, HoldsNoError};
-ghost use Rattle.wesl_tree_names.specs.declared.errors.Diagnostic.{out-Diagnostic};
 ghost use Rattle.wesl_tree.specs.Translation.{unit_view};
 
 use std::alloc::Global;
@@ -23,8 +22,8 @@ use wesl_tree_names::Diagnostic;
 ///
 /// It is refused, and the unit stays as it was, where a flag has template arguments or is answered by a refusal, where a
 /// formula is none, where an `@elif` or an `@else` goes on with no chain, and where a node has two conditions. The
-/// diagnostic tells the span of the expression at fault, or of the node in the last two cases. Memory is taken to tell such
-/// a fault alone, so a unit without one is never refused.
+/// diagnostic tells the span of the expression at fault, or of the node in the last two cases, unless it is `0..0`, and
+/// neither a module nor a declaration. Memory is taken to tell such a fault alone, so a unit without one is never refused.
 ///
 /// Where it succeeds, it succeeds again on what it left, under the same features, and changes nothing more: no flag that they
 /// refuse is left in a formula that is judged.
@@ -41,7 +40,7 @@ pub fn run(alloc: Global, unit: &mut TranslationUnit, features: &Features) -> Re
     ensures staged { IfOk result (λ _. GoesOn (answer_to features.now) (unit_view unit.old) (unit_view unit.new)) }
     ensures staged_spelled { IfOk result (λ _. GoesOnSpelled (answer_to features.now) (unit_view unit.old) (unit_view unit.new)) }
     ensures picks { IfOk result (λ _. Picks (answer_to features.now) (unit_view unit.old) (unit_view unit.new)) }
-    ensures refused { IfErr result (λ told. RefusesUnit (answer_to features.now) (unit_view unit.old) (out-Diagnostic told).error) }
+    ensures refused { IfErr result (RefusesUnit (answer_to features.now) (unit_view unit.old)) }
     ensures unchanged { IfErr result (λ _. unit.new ≡ unit.old) }
     ensures succeeds { IsFaultlessUnit (answer_to features.now) (unit_view unit.old) → IsOk result }
     ensures staged_succeeds { HoldsNoError (answer_to features.now) → IsLeftOver (unit_view unit.old) → IsOk result }
@@ -57,7 +56,11 @@ pub fn run(alloc: Global, unit: &mut TranslationUnit, features: &Features) -> Re
     law_of_both_stages();
     law_of_faults();
     law_of_repetition();
-    check(alloc, unit, features)?;
-    resolve(alloc, unit, features);
-    Ok(())
+    match check(alloc, unit, features) {
+        Ok(()) => {
+            resolve(alloc, unit, features);
+            Ok(())
+        }
+        Err(told) => Err(told),
+    }
 }

@@ -18,3 +18,4 @@ pub mod Counted
 pub mod Nested
 pub mod AliveOf
 pub mod Numbers
+pub mod TextSets

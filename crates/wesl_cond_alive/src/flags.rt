@@ -3,35 +3,21 @@ ghost use Rattle.std.specs.Prelude.{◌≡◌, IfOk, map};
 ghost use Rattle.wesl_tree_base.specs.Borrowed.{texts};
 ghost use Rattle.wesl_tree_syntax.specs.Unit.{name_in, spelled};
 ghost use Rattle.wesl_tree.specs.Translation.{unit_view};
-ghost use Rattle.wesl_cond_alive.specs.Choices.{among, flags, once, with_text};
+ghost use Rattle.wesl_cond_alive.specs.Choices.{flags, once, with_text};
 
 use crate::walk::Walk;
+use indexmap::IndexSet;
 use std::alloc::{AllocError, Global};
 use wesl_cond_chains::name_of;
 use wesl_tree::TranslationUnit;
 use wesl_tree_names::{Ident, Names};
 
-/// Whether a text is one of these.
-fn is_among(found: &[&str], name: &str) -> bool
-    ensures { result ≡ among name.now (texts found.now) }
-{
-    for other in found {
-        if *other == name {
-            return true;
-        }
-    }
-    false
-}
-
 /// Puts a text behind others, unless it is one of them.
-fn put_once<'a>(found: &mut Vec<&'a str>, name: &'a str) -> Result<(), AllocError>
-    ensures { IfOk result (λ _. texts found.new.items ≡ with_text name.now (texts found.old.items)) }
+fn put_once<'a>(found: &mut IndexSet<&'a str>, name: &'a str) -> Result<(), AllocError>
+    ensures { IfOk result (λ _. texts found.new.keys ≡ with_text name.now (texts found.old.keys)) }
 {
-    if is_among(found, name) {
-        return Ok(());
-    }
-    match found.push(name) {
-        Ok(()) => Ok(()),
+    match found.insert(name) {
+        Ok(_) => Ok(()),
         Err(_) => Err(AllocError),
     }
 }
@@ -44,7 +30,7 @@ fn distinct<'a>(
 ) -> Result<Vec<&'a str>, AllocError>
     ensures { IfOk result (λ fs. texts fs.items ≡ once (map (name_in names.now) (map (λ i. i.0) idents.now))) }
 {
-    let mut found = Vec::new(alloc);
+    let mut found = IndexSet::new(alloc);
     let mut is_refused = false;
     for ident in idents {
         is_refused |= put_once(&mut found, name_of(names, *ident)).is_err();
@@ -52,7 +38,7 @@ fn distinct<'a>(
     if is_refused {
         return Err(AllocError);
     }
-    Ok(found)
+    Vec::from_slice(alloc, found.as_slice())
 }
 
 /// The different flags of a unit's conditions, in document order (WESL, "ConditionalTranslation"). Of a qualified name the

@@ -21,7 +21,10 @@ pub mod InPlace
 pub mod Taken
 pub mod Views
 pub mod Voids
+pub mod Placed
+pub mod Located
 pub mod Places
+pub mod Refused
 pub mod Begun
 pub mod Closing
 pub mod Natural

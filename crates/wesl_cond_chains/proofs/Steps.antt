@@ -1,5 +1,5 @@
 -- One step of what is left of a formula, and of its faults.
-use Rattle.std.proofs.Common.{◌≡◌, ℕ, rules, List, [], ◌∷◌, ◌++◌, cond, Option, ◌⊎◌, inl, inr, refl, sym, ap, ◌∙◌}
+use Rattle.std.proofs.Common.{◌≡◌, ℕ, rules, List, [], ◌++◌, cond, Option, Result, ◌⊎◌, inl, inr, refl, sym, ap, ◌∙◌, subst}
 use Rattle.wesl_cond_features.specs.declared.features.Truth.{Truth}
 use Rattle.wesl_cond_features.specs.declared.features.Truth.TheVariants.{Yes, No, Undecided}
 use Rattle.wesl_cond_features.specs.Answers.{Answers, opposite, both_hold, one_holds}
@@ -8,11 +8,11 @@ use Rattle.wesl_cond_chains.specs.FormulaResidual.{literal, parenthesized, negat
 use Rattle.std.specs.Box.{with_value}
 use Rattle.wesl_cond_chains.specs.Step.{operands_left, step, instead}
 use Rattle.wesl_cond_features.specs.Features.{Replies}
-use Rattle.wesl_cond_chains.specs.FormulaFaults.{Fault, IsAmong, formula_faults}
-use Rattle.wesl_cond_chains.specs.Evaluation.{Refuses}
-use Rattle.wesl_cond_chains.proofs.WrittenBack.{written_back}
+use Rattle.wesl_cond_chains.specs.Evaluation.{Judges}
+use Rattle.wesl_cond_chains.specs.Places.{Place, formula_places}
 use Rattle.wesl_tree_names.specs.Path.{Text}
-use Rattle.wesl_tree_names.specs.declared.errors.Error as error
+use Rattle.wesl_tree_names.specs.declared.errors.Diagnostic.{Diagnostic}
+use Rattle.wesl_cond_chains.proofs.WrittenBack.{written_back}
 use Rattle.wesl_tree_base.specs.declared.span.Span.{Span}
 use Rattle.wesl_tree_syntax.specs.View.{expression_view}
 use Rattle.std.specs.Global.{Box}
@@ -97,20 +97,6 @@ step_by_step known (other l c) = refl
 pub ruleset parenthesized_rule = (parenthesized-joined, parenthesized-joined)
 
 pub ruleset decides = (literal-parenthesized, literal-negated, literal-both, literal-either)
-
-among_before : {I : Type 0} (f : Fault I) (xs ys : List (Fault I)) → IsAmong f xs → IsAmong f (xs ++ ys)
-among_before f [] ys h = absurd h
-among_before f (x ∷ xs) ys (inl e) = inl e
-among_before f (x ∷ xs) ys (inr h) = inr (among_before f xs ys h)
-
-nothing_before : {I : Type 0} (xs ys : List (Fault I)) → xs ++ ys ≡ [] → xs ≡ []
-nothing_before [] ys e = refl
-nothing_before (x ∷ xs) ys e = cc
-
--- what one part is refused for, the whole is
-pub refuses_before : (names : List Text) (e : error.Error) (xs ys : List (Fault ℕ)) → Refuses names xs e → Refuses names (xs ++ ys) e
-refuses_before names e xs ys (inl h) = inl (h.0, λ none. h.1 (nothing_before xs ys none))
-refuses_before names e xs ys (inr h) = inr (h.0, among_before h.0 xs ys h.1, h.2)
 
 -- an expression that reads as this formula is what that is written as
 pub written_as : (e : Expression) (f : Form ℕ) → form (expression_view e) ≡ f → expression_view e ≡ written f
@@ -223,7 +209,19 @@ module _ (known : Answers ℕ) (f : Expression) (e : Box (Spanned Expression)) (
         ∙ ap (λ a. either_of e.value.span (form (expression_view e.value.node)) a.span (form (expression_view a.node))) also ∙ ap (step known) (sym (form_disjunction e d)) ∙ ap (λ g. step known (form (expression_view g))) (sym (is ∙ ap (λ q. made.Binary q e d) same))
 
 -- the faults of two operands
-pub joined_faults : (reply : Replies ℕ) (o : BinaryOperator) (e d : Box (Spanned Expression)) → (o ≡ ShortCircuitAnd) ⊎ (o ≡ ShortCircuitOr)
-    → formula_faults reply (form (expression_view (made.Binary o e d))) ≡ formula_faults reply (form (expression_view e.value.node)) ++ formula_faults reply (form (expression_view d.value.node))
-joined_faults reply o e d (inl is) = ap (λ p. formula_faults reply (form (expression_view (made.Binary p e d)))) is ∙ ap (formula_faults reply) (form_conjunction e d)
-joined_faults reply o e d (inr is) = ap (λ p. formula_faults reply (form (expression_view (made.Binary p e d)))) is ∙ ap (formula_faults reply) (form_disjunction e d)
+module _ (reply : Replies ℕ) where
+  abbrev pub places_in : Spanned Expression → List (Place ℕ)
+  places_in e = formula_places reply e.span (form (expression_view e.node))
+
+  pub joined_places : (span : Span) (o : BinaryOperator) (e d : Box (Spanned Expression)) → (o ≡ ShortCircuitAnd) ⊎ (o ≡ ShortCircuitOr)
+      → formula_places reply span (form (expression_view (made.Binary o e d))) ≡ places_in e.value ++ places_in d.value
+  joined_places span o e d (inl is) = ap (λ p. formula_places reply span (form (expression_view (made.Binary p e d)))) is ∙ ap (formula_places reply span) (form_conjunction e d)
+  joined_places span o e d (inr is) = ap (λ p. formula_places reply span (form (expression_view (made.Binary p e d)))) is ∙ ap (formula_places reply span) (form_disjunction e d)
+
+  -- two operands, the first of which has no fault
+  pub both_judged : {A : Type 0} (names : List Text) (span : Span) (x : Expression) (o : BinaryOperator) (e d : Box (Spanned Expression)) (left right : Spanned Expression) (r : Result A Diagnostic) → x ≡ made.Binary o e d → (o ≡ ShortCircuitAnd) ⊎ (o ≡ ShortCircuitOr)
+      → left ≡ e.value → right ≡ d.value → places_in left ≡ [] → Judges names (places_in right) r → Judges names (formula_places reply span (form (expression_view x))) r
+  both_judged names span x o e d left right r is joins same also clear h =
+      subst (λ ps. Judges names ps r)
+      (sym (ap (λ y. formula_places reply span (form (expression_view y))) is ∙ joined_places span o e d joins ∙ ap (λ ps. ps ++ places_in d.value) (subst (λ y. places_in y ≡ []) same clear)))
+      (subst (λ y. Judges names (places_in y) r) also h)

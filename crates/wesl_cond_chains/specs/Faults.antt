@@ -5,6 +5,7 @@ use Rattle.wesl_cond_chains.specs.Chains.{Condition, none, on, else_on, otherwis
 use Rattle.wesl_cond_chains.specs.Conditions.{condition_at, attributes_in, is_statements, is_list, is_void}
 use Rattle.wesl_cond_chains.specs.Lists.{Element, element, elements, is_closed, is_compound, is_option, is_entered, holds_body, judged}
 use Rattle.wesl_cond_chains.specs.FormulaFaults.{Fault, no_preceding_if, duplicate_if, IsAmong, formula_faults}
+use Rattle.wesl_cond_features.specs.Answers.{Answers}
 use Rattle.wesl_cond_features.specs.Features.{Replies, known}
 use Rattle.wesl_tree_syntax.specs.Tree.{LabelOf, ForestOf, end, tree}
 
@@ -27,10 +28,6 @@ module _ {I : Type 0} where
   abbrev pub conditions : ForestOf I → List (Condition I)
   conditions end = []
   conditions (tree l attribute others) = and_rest (condition_at attribute) (conditions others)
-
-  -- the faults of their formulas
-  abbrev pub all_condition_faults : Replies I → ForestOf I → List (Fault I)
-  all_condition_faults reply attributes = flat_map (condition_faults reply) (conditions attributes)
 
   -- all conditions of a node
   abbrev pub conditions_of : Element I → List (Condition I)
@@ -76,11 +73,16 @@ module _ {I : Type 0} where
   abbrev pub list_at : Bool → LabelOf I → ForestOf I → List (Element I)
   list_at held l children = cond (is_closed l) (closed_list children) (cond (is_list l && not (is_statements l && held)) (elements false children) [])
 
--- a fault stands in a list that is judged, or, where the list has none, inside its nodes that stay
-pub data Stands {I : Type 0} (reply : Replies I) : Bool → ForestOf I → Fault I → Type 0 where
-  here : {held : Bool} {l : LabelOf I} {children others : ForestOf I} {f : Fault I}
-      → is_entered l ≡ true → IsAmong f (list_faults reply false (list_at held l children)) → Stands reply held (tree l children others) f
-  inside : {held : Bool} {l : LabelOf I} {children others : ForestOf I} {f : Fault I}
-      → is_entered l ≡ true → list_faults reply false (list_at held l children) ≡ []
-      → Stands reply (holds_body held l) (judged (staying element (known reply)) held l children) f → Stands reply held (tree l children others) f
-  beside : {held : Bool} {l : LabelOf I} {children others : ForestOf I} {f : Fault I} → Stands reply held others f → Stands reply held (tree l children others) f
+-- Something stands in a list that is judged, or, where the list has nothing, inside its nodes that stay. What a list has is
+-- told by `listed`: its faults, say.
+pub data StandsBy {I F : Type 0} (listed : List (Element I) → List F) (answers : Answers I) : Bool → ForestOf I → F → Type 0 where
+  here : {held : Bool} {l : LabelOf I} {children others : ForestOf I} {f : F}
+      → is_entered l ≡ true → IsAmong f (listed (list_at held l children)) → StandsBy listed answers held (tree l children others) f
+  inside : {held : Bool} {l : LabelOf I} {children others : ForestOf I} {f : F}
+      → is_entered l ≡ true → listed (list_at held l children) ≡ []
+      → StandsBy listed answers (holds_body held l) (judged (staying element answers) held l children) f → StandsBy listed answers held (tree l children others) f
+  beside : {held : Bool} {l : LabelOf I} {children others : ForestOf I} {f : F} → StandsBy listed answers held others f → StandsBy listed answers held (tree l children others) f
+
+-- a fault stands in some trees
+abbrev pub Stands : {I : Type 0} → Replies I → Bool → ForestOf I → Fault I → Type 0
+Stands reply = StandsBy (list_faults reply false) (known reply)

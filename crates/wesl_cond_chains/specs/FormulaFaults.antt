@@ -18,12 +18,12 @@ pub data Fault (I : Type 0) : Type 0 where
   no_preceding_if : Fault I
   duplicate_if : Fault I
 
-module _ {I : Type 0} where
-  -- f is one of them
-  abbrev pub IsAmong : Fault I → List (Fault I) → Type 0
-  IsAmong f [] = ⊥
-  IsAmong f (g ∷ gs) = (f ≡ g) ⊎ IsAmong f gs
+-- f is one of them
+abbrev pub IsAmong : {F : Type 0} → F → List F → Type 0
+IsAmong f [] = ⊥
+IsAmong f (g ∷ gs) = (f ≡ g) ⊎ IsAmong f gs
 
+module _ {I : Type 0} where
   -- the fault of a flag, by its answer: it is unexpected where that is error, else there is none
   abbrev pub faults_if_refused : Feature → I → List (Fault I)
   faults_if_refused Enable name = []

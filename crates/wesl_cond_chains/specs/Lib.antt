@@ -8,6 +8,7 @@ pub mod Flags
 pub mod Faults
 pub mod Judging
 pub mod Nodes
+pub mod Places
 pub mod Laws
 pub mod Formulas
 pub mod FormulaResidual

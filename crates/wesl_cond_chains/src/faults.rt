@@ -1,9 +1,12 @@
 //! The faults of the conditions of a list.
-ghost use Rattle.std.specs.Prelude.{◌≡◌, List, false, true};
-ghost use Rattle.wesl_cond_chains.specs.Faults.{condition_faults, conditions, list_faults, opens, place_faults, all_condition_faults};
+ghost use Rattle.std.specs.Prelude.{◌≡◌, ◌&&◌, List, false, map, not};
+ghost use Rattle.wesl_cond_chains.specs.Chains.{follows_on};
+ghost use Rattle.wesl_cond_chains.specs.Conditions.{first_condition};
+ghost use Rattle.wesl_cond_chains.specs.Faults.{conditions, opens, place_faults};
 ghost use Rattle.wesl_cond_chains.specs.Judging.{NodeBegins, NodesBegin};
 ghost use Rattle.wesl_cond_chains.specs.Nodes.{attributes_forest, condition_of_attribute, is_several, replies, closed_nodes, nodes_in};
 ghost use Rattle.wesl_cond_chains.specs.Evaluation.{Judges};
+ghost use Rattle.wesl_cond_chains.specs.Places.{all_condition_places, condition_places, found_at, list_places};
 ghost use Rattle.wesl_tree_names.specs.Path.{Text};
 
 use crate::conditions::{Condition, condition_of, follows_on, is_condition};
@@ -52,12 +55,11 @@ fn check_attribute(
     names: &Names,
     features: &Features,
 ) -> Result<(), Diagnostic>
-    ensures { Judges names.now (condition_faults (replies names.now features.now) (condition_of_attribute attribute.now)) result }
+    ensures { Judges names.now (condition_places (replies names.now features.now) (condition_of_attribute attribute.now)) result }
 {
     match condition_of(attribute) {
-        Some(Condition::If(formula) | Condition::Elif(formula)) => {
-            check_formula(alloc, formula, names, features)
-        }
+        Some(Condition::If(formula)) => check_formula(alloc, formula, names, features),
+        Some(Condition::Elif(formula)) => check_formula(alloc, formula, names, features),
         Some(Condition::Else) | None => Ok(()),
     }
 }
@@ -69,7 +71,7 @@ fn check_formulas(
     names: &Names,
     features: &Features,
 ) -> Result<(), Diagnostic>
-    ensures { Judges names.now (all_condition_faults (replies names.now features.now) (attributes_forest attributes.now)) result }
+    ensures { Judges names.now (all_condition_places (replies names.now features.now) (attributes_forest attributes.now)) result }
 {
     for attribute in attributes {
         match check_attribute(alloc, &attribute.node, names, features) {
@@ -80,16 +82,22 @@ fn check_formulas(
     Ok(())
 }
 
+/// Whether the first condition goes on with a chain, and none is open.
+fn is_orphan(attributes: &[AttributeNode], opened: bool) -> bool
+    ensures { result ≡ not opened && follows_on (first_condition (attributes_forest attributes.now)) }
+{
+    !opened && follows_on(attributes)
+}
+
 /// Judges where the conditions among the attributes stand: there is one at most, and an `@elif` or an `@else` goes on
 /// with a chain that is open. `span` is the place of their node.
-#[tactic(auto, using(crate::proofs::Places::place_is))]
 fn check_place(attributes: &[AttributeNode], opened: bool, span: Span) -> Result<(), Diagnostic>
-    ensures { (names : List Text) → Judges names (place_faults opened (conditions (attributes_forest attributes.now))) result }
+    ensures { (names : List Text) → Judges names (map (found_at span) (place_faults opened (conditions (attributes_forest attributes.now)))) result }
 {
     if has_several(attributes) {
         return Err(Diagnostic::at(Error::CondComp(CondCompError::DuplicateIf), span));
     }
-    if !opened && follows_on(attributes) {
+    if is_orphan(attributes, opened) {
         return Err(Diagnostic::at(Error::CondComp(CondCompError::NoPrecedingIf), span));
     }
     Ok(())
@@ -144,7 +152,7 @@ pub fn check_list<T: Conditional>(
     names: &Names,
     features: &Features,
 ) -> Result<(), Diagnostic>
-    ensures { Judges names.now (list_faults (replies names.now features.now) false (nodes_in T.tree nodes.now.items)) result }
+    ensures { Judges names.now (list_places (replies names.now features.now) false (nodes_in T.tree nodes.now.items)) result }
 {
     match check_nodes(alloc, nodes, names, features) {
         Ok(_) => Ok(()),
@@ -160,7 +168,7 @@ pub fn check_both<T: Conditional, L: Conditional>(
     names: &Names,
     features: &Features,
 ) -> Result<(), Diagnostic>
-    ensures { Judges names.now (list_faults (replies names.now features.now) false (closed_nodes T.tree nodes.now.items L.tree last.now)) result }
+    ensures { Judges names.now (list_places (replies names.now features.now) false (closed_nodes T.tree nodes.now.items L.tree last.now)) result }
 {
     match check_nodes(alloc, nodes, names, features) {
         Ok(opened) => match last {

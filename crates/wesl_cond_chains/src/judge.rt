@@ -1,8 +1,9 @@
 //! The faults of a formula.
 ghost use Rattle.std.specs.Prelude.{◌≡◌, ℕ, List, [], ◌∷◌};
 ghost use Rattle.wesl_cond_chains.specs.Evaluation.{Judges, Refuses};
-ghost use Rattle.wesl_cond_chains.specs.FormulaFaults.{formula_faults, invalid_flag, unexpected_flag};
+ghost use Rattle.wesl_cond_chains.specs.FormulaFaults.{invalid_expression, invalid_flag, unexpected_flag};
 ghost use Rattle.wesl_cond_chains.specs.Nodes.{replies};
+ghost use Rattle.wesl_cond_chains.specs.Places.{formula_places, found_at};
 ghost use Rattle.wesl_cond_chains.specs.Step.{form_of, name_form};
 ghost use Rattle.wesl_tree_names.specs.Path.{Text};
 ghost use Rattle.wesl_tree_syntax.specs.Unit.{name_in};
@@ -15,23 +16,40 @@ use wesl_tree_syntax::{
     BinaryOperator, Expression, ExpressionNode, Literal, TypeExpression, UnaryOperator,
 };
 
-/// The refusal of a flag with template arguments.
-fn invalid_flag(alloc: Global, name: &str) -> Error
-    ensures { (names : List Text) → (number : ℕ) → name_in names number ≡ name.now → Refuses names (invalid_flag number ∷ []) result }
+/// The refusal of what is no formula, at its place.
+fn invalid_expression(span: Span) -> Diagnostic
+    ensures { (names : List Text) → Refuses names (found_at span invalid_expression ∷ []) result }
+{
+    Diagnostic::at(Error::CondComp(CondCompError::InvalidExpression), span)
+}
+
+/// The refusal of a flag with template arguments, at its place.
+fn invalid_flag(alloc: Global, name: &str, span: Span) -> Diagnostic
+    ensures { (names : List Text) → (number : ℕ) → name_in names number ≡ name.now → Refuses names (found_at span (invalid_flag number) ∷ []) result }
 {
     match String::from_str(alloc, name) {
-        Ok(name) => Error::CondComp(CondCompError::InvalidFeatureFlag(name)),
-        Err(_) => Error::Memory,
+        Ok(name) => {
+            Diagnostic::at(
+                Error::CondComp(CondCompError::InvalidFeatureFlag(name)),
+                span,
+            )
+        }
+        Err(_) => Diagnostic::at(Error::Memory, span),
     }
 }
 
-/// The refusal of a flag that is answered by one.
-fn unexpected_flag(alloc: Global, name: &str) -> Error
-    ensures { (names : List Text) → (number : ℕ) → name_in names number ≡ name.now → Refuses names (unexpected_flag number ∷ []) result }
+/// The refusal of a flag that is answered by one, at its place.
+fn unexpected_flag(alloc: Global, name: &str, span: Span) -> Diagnostic
+    ensures { (names : List Text) → (number : ℕ) → name_in names number ≡ name.now → Refuses names (found_at span (unexpected_flag number) ∷ []) result }
 {
     match String::from_str(alloc, name) {
-        Ok(name) => Error::CondComp(CondCompError::UnexpectedFeatureFlag(name)),
-        Err(_) => Error::Memory,
+        Ok(name) => {
+            Diagnostic::at(
+                Error::CondComp(CondCompError::UnexpectedFeatureFlag(name)),
+                span,
+            )
+        }
+        Err(_) => Diagnostic::at(Error::Memory, span),
     }
 }
 
@@ -43,14 +61,14 @@ fn check_flag(
     names: &Names,
     features: &Features,
 ) -> Result<(), Diagnostic>
-    ensures { Judges names.now (formula_faults (replies names.now features.now) (name_form ty.now)) result }
+    ensures { Judges names.now (formula_places (replies names.now features.now) span (name_form ty.now)) result }
 {
     let name = name_of(names, ty.ident);
     if ty.template_args.is_some() {
-        return Err(Diagnostic::at(invalid_flag(alloc, name), span));
+        return Err(invalid_flag(alloc, name, span));
     }
     match features.answer(name) {
-        Feature::Error => Err(Diagnostic::at(unexpected_flag(alloc, name), span)),
+        Feature::Error => Err(unexpected_flag(alloc, name, span)),
         Feature::Enable | Feature::Disable | Feature::Keep => Ok(()),
     }
 }
@@ -64,7 +82,7 @@ pub fn check_formula(
     names: &Names,
     features: &Features,
 ) -> Result<(), Diagnostic>
-    ensures { Judges names.now (formula_faults (replies names.now features.now) (form_of formula.now.node)) result }
+    ensures { Judges names.now (formula_places (replies names.now features.now) formula.now.span (form_of formula.now.node)) result }
 {
     match &formula.node {
         Expression::Literal(Literal::Bool(true)) => Ok(()),
@@ -102,23 +120,13 @@ pub fn check_formula(
             | BinaryOperator::BitwiseAnd
             | BinaryOperator::BitwiseXor
             | BinaryOperator::ShiftLeft
-            | BinaryOperator::ShiftRight => {
-                Err(Diagnostic::at(
-                    Error::CondComp(CondCompError::InvalidExpression),
-                    formula.span,
-                ))
-            }
+            | BinaryOperator::ShiftRight => Err(invalid_expression(formula.span)),
         },
         Expression::TypeOrIdentifier(ty) => check_flag(alloc, ty, formula.span, names, features),
         Expression::Literal(Literal::Text(_))
         | Expression::NamedComponent { .. }
         | Expression::Indexing { .. }
         | Expression::Unary { .. }
-        | Expression::FunctionCall(_) => {
-            Err(Diagnostic::at(
-                Error::CondComp(CondCompError::InvalidExpression),
-                formula.span,
-            ))
-        }
+        | Expression::FunctionCall(_) => Err(invalid_expression(formula.span)),
     }
 }

@@ -4,6 +4,7 @@ ghost use Rattle.wesl_cond_chains.specs.Conditions.{attributes_in, is_void, reca
 ghost use Rattle.wesl_cond_chains.specs.Lists.{element, still};
 ghost use Rattle.wesl_cond_chains.specs.Judging.{Closes};
 ghost use Rattle.wesl_cond_chains.specs.Nodes.{answers, attributes_forest, nodes_forest, optional_forest};
+ghost use Rattle.wesl_cond_chains.specs.Places.{span_of};
 ghost use Rattle.wesl_cond_chains.specs.Following.{LeavesBoth, LeavesLast, LeavesNodes, PassesNodes, TakesNode, left_of_list};
 ghost use Rattle.wesl_tree_syntax.specs.Tree.{Tree, before, end};
 
@@ -21,7 +22,8 @@ pub trait Conditional {
         ensures { result ≡ is_void (tree self.now).label (tree self.now).children };
 
     /// The place of the node, `0..0` where its kind has none.
-    fn span(&self) -> Span;
+    fn span(&self) -> Span
+        ensures { result ≡ span_of (tree self.now).label };
 
     /// Its attributes.
     fn attributes(&self) -> &[AttributeNode]

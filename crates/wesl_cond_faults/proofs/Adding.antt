@@ -1,19 +1,17 @@
 -- What is told of some trees, by what is told of their parts.
-use Rattle.std.proofs.Common.{◌≡◌, ℕ, Bool, true, false, List, [], ◌++◌, inl, inr, Result, Ok, Err, is_ok, sym, subst, append_assoc, append-nil}
+use Rattle.std.proofs.Common.{◌≡◌, ℕ, Bool, true, false, List, [], ◌++◌, Result, Ok, Err, is_ok, sym, subst, append_assoc, append-nil}
 use Rattle.wesl_cond_chains.specs.Evaluation.{Judges, Refuses}
-use Rattle.wesl_cond_chains.specs.Faults.{list_faults, list_at}
-use Rattle.wesl_cond_chains.specs.FormulaFaults.{Fault, IsAmong}
-use Rattle.wesl_cond_chains.specs.Lists.{Element, judged, is_entered, holds_body}
+use Rattle.wesl_cond_chains.specs.Faults.{list_at}
+use Rattle.wesl_cond_chains.specs.FormulaFaults.{IsAmong}
+use Rattle.wesl_cond_chains.specs.Lists.{judged, is_entered, holds_body}
 use Rattle.wesl_cond_features.specs.Features.{Replies}
 use Rattle.wesl_cond_faults.proofs.Listing.{stay, joined, own_alone, inside_alone, leaf_alone}
-use Rattle.wesl_cond_faults.proofs.Placed.{no_faults, no_places}
 use Rattle.wesl_cond_faults.specs.Listed.{AreFaults, nothing}
-use Rattle.wesl_cond_faults.specs.Places.{Place, list_places}
+use Rattle.wesl_cond_chains.specs.Places.{Place, list_places}
 use Rattle.wesl_cond_faults.specs.Telling.{AddsFaults, AddsAll, IsTold}
 use Rattle.wesl_cond_faults.specs.declared.told.Told.{Told}
 use Rattle.wesl_tree_names.specs.Path.{Text}
-use Rattle.wesl_tree_names.specs.declared.errors.Diagnostic.{Diagnostic, out-Diagnostic}
-use Rattle.wesl_tree_names.specs.declared.errors.Error as error
+use Rattle.wesl_tree_names.specs.declared.errors.Diagnostic.{Diagnostic}
 use Rattle.wesl_tree_syntax.specs.Tree.{Label, Forest, Tree, end, tree, before}
 
 -- A list that was judged has no fault, or one.
@@ -22,20 +20,16 @@ two_ways b e d = cc
 
 module _ (names : List Text) where
   -- a list that was refused has a fault
-  some_among : (f : Fault ℕ) (fs : List (Fault ℕ)) → IsAmong f fs → fs ≡ [] → ⊥
-  some_among f fs h e = subst (IsAmong f) e h
+  pub refused_some : (fs : List (Place ℕ)) (told : Diagnostic) → Refuses names fs told → fs ≡ [] → ⊥
+  refused_some fs told h none = subst (IsAmong h.0) none h.1
 
-  pub refused_some : (fs : List (Fault ℕ)) (e : error.Error) → Refuses names fs e → fs ≡ [] → ⊥
-  refused_some fs e (inl h) none = h.1 none
-  refused_some fs e (inr h) none = some_among h.0 fs h.1 none
-
-  pub clear_if : {A : Type 0} (fs : List (Fault ℕ)) (r : Result A Diagnostic) (b : Bool) → Judges names fs r → b ≡ is_ok r → b ≡ true → fs ≡ []
+  pub clear_if : {A : Type 0} (fs : List (Place ℕ)) (r : Result A Diagnostic) (b : Bool) → Judges names fs r → b ≡ is_ok r → b ≡ true → fs ≡ []
   clear_if fs (Ok x) b h e t = h
   clear_if fs (Err d) b h e t = absurd (two_ways b t e)
 
-  pub some_if : {A : Type 0} (fs : List (Fault ℕ)) (r : Result A Diagnostic) (b : Bool) → Judges names fs r → b ≡ is_ok r → b ≡ false → fs ≡ [] → ⊥
+  pub some_if : {A : Type 0} (fs : List (Place ℕ)) (r : Result A Diagnostic) (b : Bool) → Judges names fs r → b ≡ is_ok r → b ≡ false → fs ≡ [] → ⊥
   some_if fs (Ok x) b h e d none = two_ways b e d
-  some_if fs (Err told) b h e d none = refused_some fs (out-Diagnostic told).error h none
+  some_if fs (Err told) b h e d none = refused_some fs told h none
 
 module _ (names : List Text) where
   pub adds_none : (a : Told) → AddsFaults names [] a a
@@ -48,9 +42,6 @@ module _ (names : List Text) where
   adds_same ps qs a b e h = subst (λ rs. AddsFaults names rs a b) e h
 
   module _ (reply : Replies ℕ) where
-    pub some_place : (xs : List (Element ℕ)) → (list_faults reply false xs ≡ [] → ⊥) → list_places reply false xs ≡ [] → ⊥
-    some_place xs some none = some (no_faults reply false xs none)
-
     pub adds_nothing : (a : Told) → AddsAll names reply end a a
     adds_nothing a = ([], nothing, adds_none a)
 
@@ -65,13 +56,13 @@ module _ (names : List Text) where
     adds_skip t o a b e h = adds_past t o a b (leaf_alone reply false t.label t.children e) h
 
     -- the list of a node has a fault
-    pub adds_own : (l : Label) (c : Forest) (a b : Told) → is_entered l ≡ true → (list_faults reply false (list_at false l c) ≡ [] → ⊥) → AddsFaults names (list_places reply false (list_at false l c)) a b → AddsAll names reply (tree l c end) a b
-    adds_own l c a b en some h = (list_places reply false (list_at false l c), own_alone reply false l c en (some_place (list_at false l c) some), h)
+    pub adds_own : (l : Label) (c : Forest) (a b : Told) → is_entered l ≡ true → (list_places reply false (list_at false l c) ≡ [] → ⊥) → AddsFaults names (list_places reply false (list_at false l c)) a b → AddsAll names reply (tree l c end) a b
+    adds_own l c a b en some h = (list_places reply false (list_at false l c), own_alone reply false l c en some, h)
 
     -- it has none
-    pub adds_inside : (l : Label) (c : Forest) (a b : Told) → is_entered l ≡ true → list_faults reply false (list_at false l c) ≡ [] → holds_body false l ≡ false → AddsAll names reply (judged (stay reply) false l c) a b → AddsAll names reply (tree l c end) a b
+    pub adds_inside : (l : Label) (c : Forest) (a b : Told) → is_entered l ≡ true → list_places reply false (list_at false l c) ≡ [] → holds_body false l ≡ false → AddsAll names reply (judged (stay reply) false l c) a b → AddsAll names reply (tree l c end) a b
     adds_inside l c a b en none apart h =
-        (h.0, inside_alone reply false l c h.0 en (no_places reply false (list_at false l c) none) (subst (λ held. AreFaults reply held (judged (stay reply) false l c) h.0) (sym apart) h.1), h.2)
+        (h.0, inside_alone reply false l c h.0 en none (subst (λ held. AreFaults reply held (judged (stay reply) false l c) h.0) (sym apart) h.1), h.2)
 
     pub adds_in : (s t : Forest) (a b : Told) → s ≡ t → AddsAll names reply s a b → AddsAll names reply t a b
     adds_in s t a b e h = subst (λ r. AddsAll names reply r a b) e h

@@ -1,22 +1,23 @@
 -- The faults of formulas and of the attributes of nodes, told one after the other.
-use Rattle.std.proofs.Common.{◌≡◌, ℕ, Bool, true, false, not, ◌&&◌, cond, rules, List, [], ◌∷◌, ◌++◌, ◌⊎◌, inl, inr, map, take, drop, length, ◌≤◌, ◌<◌, ◌+◌, get_or, refl, sym, ap, ◌∙◌, subst, append_assoc, append-nil}
+use Rattle.std.proofs.Common.{◌≡◌, ℕ, Bool, true, false, not, ◌&&◌, cond, List, [], ◌∷◌, ◌++◌, ◌⊎◌, map, take, drop, length, ◌≤◌, ◌<◌, ◌+◌, get_or, refl, sym, ap, ◌∙◌, subst, append_assoc, append-nil}
 use Rattle.std.specs.List.{flat_map}
 use Rattle.std.specs.Global.{Box}
 use Rattle.std.proofs.lemmas.List.{drop_more, map_more}
 use Rattle.wesl_cond_chains.proofs.Begun.{none_left, all_taken}
-use Rattle.wesl_cond_chains.proofs.Places.{place_is}
+use Rattle.wesl_cond_chains.proofs.Places.{formulas_next, place_is}
+use Rattle.wesl_cond_chains.proofs.Steps.{joined_places, places_in}
 use Rattle.wesl_cond_chains.proofs.Taken.{elements_as}
-use Rattle.wesl_cond_chains.specs.Chains.{Condition, none, on, else_on, otherwise, follows_on}
+use Rattle.wesl_cond_chains.specs.Chains.{follows_on}
 use Rattle.wesl_cond_chains.specs.Conditions.{attributes_in, first_condition, is_void}
-use Rattle.wesl_cond_chains.specs.Faults.{and_rest, conditions, opens, place_faults}
+use Rattle.wesl_cond_chains.specs.Faults.{conditions, opens, place_faults}
 use Rattle.wesl_cond_chains.specs.FormulaFaults.{Fault, duplicate_if, no_preceding_if}
-use Rattle.wesl_cond_chains.specs.Formulas.{conjunction, disjunction, form}
+use Rattle.wesl_cond_chains.specs.Formulas.{form}
 use Rattle.wesl_cond_chains.specs.Lists.{Element, elements}
 use Rattle.wesl_cond_chains.specs.Nodes.{as_element, attributes_forest, condition_of_attribute, is_several}
 use Rattle.wesl_cond_features.specs.Features.{Replies}
 use Rattle.wesl_cond_faults.proofs.Adding.{adds_none, adds_both, adds_same}
-use Rattle.wesl_cond_faults.proofs.Placed.{list_joined, through_joined}
-use Rattle.wesl_cond_faults.specs.Places.{Place, found_at, formula_places, condition_places, span_of, node_places, opened_after, opened_through, list_places}
+use Rattle.wesl_cond_chains.proofs.Placed.{list_joined, through_joined}
+use Rattle.wesl_cond_chains.specs.Places.{Place, found_at, formula_places, condition_places, span_of, node_places, opened_after, opened_through, list_places}
 use Rattle.wesl_cond_faults.specs.Telling.{AddsFaults}
 use Rattle.wesl_cond_faults.specs.declared.told.Told.{Told}
 use Rattle.wesl_tree_base.specs.declared.span.Span.{Span}
@@ -26,15 +27,9 @@ use Rattle.wesl_tree_syntax.specs.View.{expression_view}
 use Rattle.wesl_tree_syntax.specs.declared.attribute.Attribute.{Attribute}
 use Rattle.wesl_tree_syntax.specs.declared.expression.BinaryOperator.{BinaryOperator}
 use Rattle.wesl_tree_syntax.specs.declared.expression.BinaryOperator.TheVariants.{ShortCircuitAnd, ShortCircuitOr}
-use Rattle.wesl_tree_syntax.specs.declared.expression.Expression.{Expression, the_lemmas}
+use Rattle.wesl_tree_syntax.specs.declared.expression.Expression.{Expression}
 use Rattle.wesl_tree_syntax.specs.declared.expression.Expression.TheViews as made
 use Rattle.wesl_tree_syntax.specs.declared.span.Spanned.{Spanned}
-
-form_conjunction : (e d : Box (Spanned Expression)) → form (expression_view (made.Binary ShortCircuitAnd e d)) ≡ conjunction e.value.span (form (expression_view e.value.node)) d.value.span (form (expression_view d.value.node))
-form_conjunction e d = search (rules, the_lemmas)
-
-form_disjunction : (e d : Box (Spanned Expression)) → form (expression_view (made.Binary ShortCircuitOr e d)) ≡ disjunction e.value.span (form (expression_view e.value.node)) d.value.span (form (expression_view d.value.node))
-form_disjunction e d = search (rules, the_lemmas)
 
 -- a node whose conditions stand where they may
 pub place_none : (opened : Bool) (f : Forest) (several orphan : Bool) → several ≡ is_several (conditions f) → several ≡ false → orphan ≡ (not opened && follows_on (first_condition f)) → orphan ≡ false → place_faults opened (conditions f) ≡ []
@@ -44,31 +39,17 @@ place_none opened f several orphan is apart tells stands =
     ∙ ap (λ b. cond b (no_preceding_if ∷ []) []) (sym tells ∙ stands)
 
 module _ (names : List Text) (reply : Replies ℕ) where
-  abbrev pub places_in : Spanned Expression → List (Place ℕ)
-  places_in e = formula_places reply e.span (form (expression_view e.node))
-
-  joined_places : (span : Span) (o : BinaryOperator) (e d : Box (Spanned Expression)) → (o ≡ ShortCircuitAnd) ⊎ (o ≡ ShortCircuitOr)
-      → formula_places reply span (form (expression_view (made.Binary o e d))) ≡ places_in e.value ++ places_in d.value
-  joined_places span o e d (inl is) = ap (λ p. formula_places reply span (form (expression_view (made.Binary p e d)))) is ∙ ap (formula_places reply span) (form_conjunction e d)
-  joined_places span o e d (inr is) = ap (λ p. formula_places reply span (form (expression_view (made.Binary p e d)))) is ∙ ap (formula_places reply span) (form_disjunction e d)
-
   -- the operands of a connective
   pub adds_operands : (span : Span) (x : Expression) (o : BinaryOperator) (e d : Box (Spanned Expression)) (left right : Spanned Expression) (a b c : Told) → x ≡ made.Binary o e d → (o ≡ ShortCircuitAnd) ⊎ (o ≡ ShortCircuitOr)
-      → left ≡ e.value → right ≡ d.value → AddsFaults names (places_in left) a b → AddsFaults names (places_in right) b c → AddsFaults names (formula_places reply span (form (expression_view x))) a c
+      → left ≡ e.value → right ≡ d.value → AddsFaults names (places_in reply left) a b → AddsFaults names (places_in reply right) b c → AddsFaults names (formula_places reply span (form (expression_view x))) a c
   adds_operands span x o e d left right a b c is joins same also p q =
-      adds_same names (places_in e.value ++ places_in d.value) (formula_places reply span (form (expression_view x))) a c
-      (sym (ap (λ y. formula_places reply span (form (expression_view y))) is ∙ joined_places span o e d joins))
-      (adds_both names (places_in e.value) (places_in d.value) a b c (subst (λ y. AddsFaults names (places_in y) a b) same p) (subst (λ y. AddsFaults names (places_in y) b c) also q))
+      adds_same names (places_in reply e.value ++ places_in reply d.value) (formula_places reply span (form (expression_view x))) a c
+      (sym (ap (λ y. formula_places reply span (form (expression_view y))) is ∙ joined_places reply span o e d joins))
+      (adds_both names (places_in reply e.value) (places_in reply d.value) a b c (subst (λ y. AddsFaults names (places_in reply y) a b) same p) (subst (λ y. AddsFaults names (places_in reply y) b c) also q))
 
   -- Formulas of attributes.
   abbrev pub formulas : List (Spanned Attribute) → List (Place ℕ)
   formulas xs = flat_map (condition_places reply) (conditions (attributes_forest xs))
-
-  formulas_next : (c : Condition ℕ) (cs : List (Condition ℕ)) → flat_map (condition_places reply) (and_rest c cs) ≡ condition_places reply c ++ flat_map (condition_places reply) cs
-  formulas_next none cs = refl
-  formulas_next (on x) cs = refl
-  formulas_next (else_on x) cs = refl
-  formulas_next otherwise cs = refl
 
   -- what is told of a beginning, so that the rest is still to be told
   abbrev pub AreBegun : List (Spanned Attribute) → Told → ℕ → Told → Type 0
@@ -84,7 +65,7 @@ module _ (names : List Text) (reply : Replies ℕ) where
         adds_both names h.0 here a b c h.1 k,
         h.2
             ∙ ap (λ ys. h.0 ++ formulas ys) (drop_more xs i x lt) ∙ ap (λ y. h.0 ++ formulas (y ∷ drop (i + 1) xs)) (sym is)
-            ∙ ap (λ r. h.0 ++ r) (formulas_next (condition_of_attribute x.node) (conditions (attributes_forest (drop (i + 1) xs))))
+            ∙ ap (λ r. h.0 ++ r) (formulas_next reply (condition_of_attribute x.node) (conditions (attributes_forest (drop (i + 1) xs))))
             ∙ sym (append_assoc h.0 here (formulas (drop (i + 1) xs))),
       )
 

@@ -2,7 +2,6 @@ pub mod Adding
 pub mod Formulas
 pub mod Listing
 pub mod Loops
-pub mod Placed
 pub mod Standing
 pub mod Telling
 pub mod Views

@@ -5,7 +5,7 @@ use Rattle.wesl_cond_chains.specs.Faults.{list_at}
 use Rattle.wesl_cond_chains.specs.Lists.{Element, element, option_of, judged, is_entered, holds_body}
 use Rattle.wesl_cond_features.specs.Features.{Replies, known}
 use Rattle.wesl_cond_faults.specs.Listed.{AreFaults, nothing, own, inside, apart}
-use Rattle.wesl_cond_faults.specs.Places.{Place, list_places}
+use Rattle.wesl_cond_chains.specs.Places.{Place, list_places}
 use Rattle.wesl_tree_syntax.specs.Tree.{LabelOf, ForestOf, end, tree, kind, compound, statements, present, absent}
 
 module _ {I : Type 0} (reply : Replies I) where

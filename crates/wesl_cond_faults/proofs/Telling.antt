@@ -1,12 +1,14 @@
 -- Faults told one after the other.
-use Rattle.std.proofs.Common.{◌≡◌, ◌↔◌, ℕ, Bool, true, false, List, [], ◌∷◌, ◌++◌, inl, refl, sym, ap, subst}
+use Rattle.std.proofs.Common.{◌≡◌, ◌↔◌, ℕ, Bool, true, false, List, [], ◌∷◌, ◌++◌, inl, refl, sym, subst}
 use Rattle.wesl_cond_chains.specs.FormulaFaults.{Fault, IsAmong, Tells}
 use Rattle.wesl_cond_chains.specs.Laws.{IsFaultless}
 use Rattle.wesl_cond_features.specs.Features.{Replies, by_number}
 use Rattle.wesl_cond_faults.proofs.Standing.{each_is_among, each_stands}
-use Rattle.wesl_cond_faults.proofs.Placed.{faults_of}
-use Rattle.wesl_cond_faults.specs.Places.{Place, found_at}
-use Rattle.wesl_cond_faults.specs.Telling.{TellsPlace, TellEach, TellsAll, TellsUnit, IsTold, AddsFaults, AddsAll}
+use Rattle.wesl_cond_chains.proofs.Located.{clear_without, stands_without}
+use Rattle.wesl_cond_chains.proofs.Refused.{placed_told}
+use Rattle.wesl_cond_chains.specs.Places.{Place, found_at}
+use Rattle.wesl_cond_chains.specs.Evaluation.{TellsPlace}
+use Rattle.wesl_cond_faults.specs.Telling.{TellEach, TellsAll, TellsUnit, IsTold, AddsFaults, AddsAll}
 use Rattle.wesl_cond_faults.specs.declared.told.Told.{Told}
 use Rattle.wesl_tree_base.specs.declared.span.Span.{Span}
 use Rattle.wesl_tree_names.specs.Errors.{IsPlaced}
@@ -26,12 +28,9 @@ module _ (names : List Text) where
   tell_more (q ∷ qs) [] p d h k = absurd h
   tell_more (q ∷ qs) (x ∷ xs) p d h k = (h.0, tell_more qs xs p d h.1 k)
 
-  placed_told : (e : error.Error) (span : Span) (f : Fault ℕ) (d : Diagnostic) → IsPlaced e span d → Tells names e f → TellsPlace names (found_at span f) d
-  placed_told e span f d is h = subst (λ g. Tells names g f × IsPlaced g span d) (sym (ap (λ r. r.error) is)) (h, is)
-
   pub adds_one : (e : error.Error) (span : Span) (f : Fault ℕ) (d : Diagnostic) (a b : Told) → (b.is_refused ≡ false → a.is_refused ≡ false) → (b.is_refused ≡ false → b.diagnostics.items ≡ a.diagnostics.items ++ d ∷ [])
       → IsPlaced e span d → Tells names e f → AddsFaults names (found_at span f ∷ []) a b
-  adds_one e span f d a b kept grown is h = λ first told k. subst (TellEach names (first ++ found_at span f ∷ [])) (sym (grown k)) (tell_more first a.diagnostics.items (found_at span f) d (told (kept k)) (placed_told e span f d is h))
+  adds_one e span f d a b kept grown is h = λ first told k. subst (TellEach names (first ++ found_at span f ∷ [])) (sym (grown k)) (tell_more first a.diagnostics.items (found_at span f) d (told (kept k)) (placed_told names e span f d is h))
 
   pub adds_refused : (ps : List (Place ℕ)) (a b : Told) → b.is_refused ≡ true → AddsFaults names ps a b
   adds_refused ps a b e = λ first told k. absurd (not_both b.is_refused e k)
@@ -46,9 +45,9 @@ module _ (names : List Text) where
   each_none [] (d ∷ ds) h e = absurd h
   each_none (p ∷ ps) ds h e = cc
 
-none_if_none : (ps : List (Place ℕ)) → ((f : Fault ℕ) → IsAmong f (faults_of ps) → ⊥) → ps ≡ []
+none_if_none : (ps : List (Place ℕ)) → ((p : Place ℕ) → IsAmong p ps → ⊥) → ps ≡ []
 none_if_none [] h = refl
-none_if_none (p ∷ ps) h = absurd (h p.fault (inl refl))
+none_if_none (p ∷ ps) h = absurd (h p (inl refl))
 
 -- what was told from nothing on is all that was told
 pub all_told : (names : List Text) (reply : Replies ℕ) (trees : Forest) (a b : Told) → IsTold names [] a → AddsAll names reply trees a b → b.is_refused ≡ false → TellsAll names reply trees b.diagnostics.items
@@ -59,6 +58,6 @@ pub none_told : (reply : Replies Text) (u : UnitView) (ds : List Diagnostic) →
 none_told reply u ds h =
     let r = by_number u.names reply in
     let t = forest_of_unit (trees_of u) in (
-      λ e f s. subst (λ ps. IsAmong f (faults_of ps)) (none_each u.names h.0 ds h.2 e) (each_is_among r false t h.0 h.1 f s),
-      λ clear. each_none u.names h.0 ds h.2 (none_if_none h.0 (λ f among. clear f (each_stands r false t h.0 h.1 f among))),
+      λ e. clear_without r t (λ p at. subst (IsAmong p) (none_each u.names h.0 ds h.2 e) (each_is_among r false t h.0 h.1 p at)),
+      λ clear. each_none u.names h.0 ds h.2 (none_if_none h.0 (λ p among. clear p.fault (stands_without r false t p (each_stands r false t h.0 h.1 p among)))),
     )

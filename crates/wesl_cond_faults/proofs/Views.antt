@@ -1,7 +1,7 @@
 -- What is told of a node, from what is told of its parts.
 use Rattle.std.proofs.Common.{◌≡◌, ℕ, true, false, List, [], ◌∷◌, map, Option, Some, None, Vec, Global, Box, refl, sym, ap, ◌∙◌, subst}
 use Rattle.std.specs.Box.{box_value}
-use Rattle.wesl_cond_chains.specs.Faults.{list_faults, list_at}
+use Rattle.wesl_cond_chains.specs.Faults.{list_at}
 use Rattle.wesl_cond_chains.specs.Lists.{alone, elements, holds_body, is_entered, judged}
 use Rattle.wesl_cond_chains.specs.Nodes.{replies}
 use Rattle.wesl_cond_features.specs.Features.{Replies, known}
@@ -13,7 +13,7 @@ use Rattle.wesl_cond_faults.proofs.Adding.{adds_nothing, adds_then, adds_past, a
 use Rattle.wesl_cond_faults.proofs.Listing.{stay, inside_alone, leaf_alone, own_alone}
 use Rattle.wesl_cond_faults.proofs.Walking.{no_list_in, no_list_stays}
 use Rattle.wesl_cond_faults.specs.Listed.{AreFaults, nothing}
-use Rattle.wesl_cond_faults.specs.Places.{Place, list_places}
+use Rattle.wesl_cond_chains.specs.Places.{Place, list_places}
 use Rattle.wesl_cond_faults.specs.Telling.{AddsFaults, AddsAll}
 use Rattle.wesl_cond_faults.specs.declared.told.Told.{Told}
 use Rattle.wesl_tree_names.specs.Path.{Text}
@@ -122,10 +122,10 @@ module _ (names : List Text) (reply : Replies ℕ) where
         (adds_skip names reply (attributes_tree d.attributes) (forest_of (listed selector_view list d.case_selectors ∷ compound_view d.body ∷ [])) a b refl
         (adds_past names reply (listed selector_view list d.case_selectors) (before (compound_view d.body) end) a b (clear_list selector_view leaf_selector d.case_selectors) h)))
 
-    pub clauses_told : (cs : List SwitchClause) → list_faults reply false (elements false (forest_of (map clause_view cs))) ≡ [] → AddsAll names reply (alone (stay reply) (forest_of (map clause_view cs))) a b → Good (branch clauses (map clause_view cs))
+    pub clauses_told : (cs : List SwitchClause) → list_places reply false (elements false (forest_of (map clause_view cs))) ≡ [] → AddsAll names reply (alone (stay reply) (forest_of (map clause_view cs))) a b → Good (branch clauses (map clause_view cs))
     clauses_told cs clear h = adds_inside names reply (kind clauses) (forest_of (map clause_view cs)) a b refl clear refl h
 
-    pub clauses_refused : (cs : List SwitchClause) → (list_faults reply false (elements false (forest_of (map clause_view cs))) ≡ [] → ⊥) → AddsFaults names (list_places reply false (elements false (forest_of (map clause_view cs)))) a b → Good (branch clauses (map clause_view cs))
+    pub clauses_refused : (cs : List SwitchClause) → (list_places reply false (elements false (forest_of (map clause_view cs))) ≡ [] → ⊥) → AddsFaults names (list_places reply false (elements false (forest_of (map clause_view cs)))) a b → Good (branch clauses (map clause_view cs))
     clauses_refused cs some h = adds_own names reply (kind clauses) (forest_of (map clause_view cs)) a b refl some h
 
     -- statements
@@ -160,10 +160,10 @@ module _ (names : List Text) (reply : Replies ℕ) where
         (adds_inside names reply (kind compound) (forest_of (attributes_tree d.attributes ∷ branch statements (map statement_tree d.statements.items) ∷ [])) a b refl refl refl
         (adds_skip names reply (attributes_tree d.attributes) (before (branch statements (map statement_tree d.statements.items)) end) a b refl h))
 
-    pub body_told : (x : CompoundStatement) → list_faults reply false (elements false (body_list x)) ≡ [] → AddsAll names reply (alone (stay reply) (body_list x)) a b → Good (compound_view x)
+    pub body_told : (x : CompoundStatement) → list_places reply false (elements false (body_list x)) ≡ [] → AddsAll names reply (alone (stay reply) (body_list x)) a b → Good (compound_view x)
     body_told x clear h = in_body x (adds_inside names reply (kind statements) (body_list x) a b refl clear refl h)
 
-    pub body_refused : (x : CompoundStatement) → (list_faults reply false (elements false (body_list x)) ≡ [] → ⊥) → AddsFaults names (list_places reply false (elements false (body_list x))) a b → Good (compound_view x)
+    pub body_refused : (x : CompoundStatement) → (list_places reply false (elements false (body_list x)) ≡ [] → ⊥) → AddsFaults names (list_places reply false (elements false (body_list x))) a b → Good (compound_view x)
     body_refused x some h = in_body x (adds_own names reply (kind statements) (body_list x) a b refl some h)
 
     -- declarations
@@ -185,11 +185,11 @@ module _ (names : List Text) (reply : Replies ℕ) where
         adds_inside names reply (kind struct) (forest_of (attributes_tree s.attributes ∷ ident_tree binder s.ident ∷ m ∷ [])) a b refl refl refl
         (adds_skip names reply (attributes_tree s.attributes) (forest_of (ident_tree binder s.ident ∷ m ∷ [])) a b refl (adds_skip names reply (ident_tree binder s.ident) (before m end) a b refl (members_told s.members.items h)))
 
-    pub declarations_told : (xs : List (Spanned GlobalDeclaration)) → list_faults reply false (elements false (forest_of (map (placed global_view declaration_node) xs))) ≡ []
+    pub declarations_told : (xs : List (Spanned GlobalDeclaration)) → list_places reply false (elements false (forest_of (map (placed global_view declaration_node) xs))) ≡ []
         → AddsAll names reply (alone (stay reply) (forest_of (map (placed global_view declaration_node) xs))) a b → Good (branch declarations (map (placed global_view declaration_node) xs))
     declarations_told xs clear h = adds_inside names reply (kind declarations) (forest_of (map (placed global_view declaration_node) xs)) a b refl clear refl h
 
-    pub declarations_refused : (xs : List (Spanned GlobalDeclaration)) → (list_faults reply false (elements false (forest_of (map (placed global_view declaration_node) xs))) ≡ [] → ⊥) → AddsFaults names (list_places reply false (elements false (forest_of (map (placed global_view declaration_node) xs)))) a b → Good (branch declarations (map (placed global_view declaration_node) xs))
+    pub declarations_refused : (xs : List (Spanned GlobalDeclaration)) → (list_places reply false (elements false (forest_of (map (placed global_view declaration_node) xs))) ≡ [] → ⊥) → AddsFaults names (list_places reply false (elements false (forest_of (map (placed global_view declaration_node) xs)))) a b → Good (branch declarations (map (placed global_view declaration_node) xs))
     declarations_refused xs some h = adds_own names reply (kind declarations) (forest_of (map (placed global_view declaration_node) xs)) a b refl some h
 
     pub global_told : (n : Spanned GlobalDeclaration) → Good (global_view n.node) → Good (placed global_view declaration_node n)

@@ -1,11 +1,11 @@
 -- All faults of conditions that stand in some trees.
-use Rattle.std.specs.Prelude.{◌≡◌, ◌↔◌, ℕ, List, [], ◌++◌, Bool, true, false, map}
+use Rattle.std.specs.Prelude.{◌≡◌, ◌↔◌, ℕ, List, [], ◌++◌, Bool, true, false}
 use Rattle.wesl_cond_chains.specs.Chains.{staying}
-use Rattle.wesl_cond_chains.specs.Faults.{Stands, list_at}
-use Rattle.wesl_cond_chains.specs.FormulaFaults.{Fault, IsAmong}
+use Rattle.wesl_cond_chains.specs.Faults.{list_at}
+use Rattle.wesl_cond_chains.specs.FormulaFaults.{IsAmong}
 use Rattle.wesl_cond_chains.specs.Lists.{element, is_entered, holds_body, judged}
 use Rattle.wesl_cond_features.specs.Features.{Replies, known}
-use Rattle.wesl_cond_faults.specs.Places.{Place, list_places}
+use Rattle.wesl_cond_chains.specs.Places.{Place, StandsAt, list_places}
 use Rattle.wesl_tree_syntax.specs.Tree.{LabelOf, ForestOf, Forest, end, tree}
 
 -- The faults in some trees, in document order: of a list that is judged its own, or, where it has none, those inside its nodes
@@ -20,11 +20,11 @@ pub data AreFaults {I : Type 0} (reply : Replies I) : Bool → ForestOf I → Li
   apart : {held : Bool} {l : LabelOf I} {children others : ForestOf I} {rest : List (Place I)} → is_entered l ≡ false
       → AreFaults reply held others rest → AreFaults reply held (tree l children others) rest
 
--- They are the faults that stand there, by which a module is refused: each of them stands, and each that stands is one.
+-- They are the faults that stand there, for one of which a module is refused: each of them stands, and each that stands is one.
 abbrev pub ListsAllThatStand : Type 0
 ListsAllThatStand =
     (reply : Replies ℕ) (held : Bool) (trees : Forest) (places : List (Place ℕ)) → AreFaults reply held trees places
-    → (f : Fault ℕ) → Stands reply held trees f ↔ IsAmong f (map (λ p. p.fault) places)
+    → (p : Place ℕ) → StandsAt reply held trees p ↔ IsAmong p places
 
 -- Trees have no two lists of faults.
 abbrev pub IsOneList : Type 0

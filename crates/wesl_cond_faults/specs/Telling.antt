@@ -1,23 +1,18 @@
 -- How diagnostics tell faults.
 use Rattle.std.specs.Prelude.{◌≡◌, ℕ, List, [], ◌∷◌, ◌++◌, false}
 use Rattle.wesl_cond_chains.specs.Chains.{staying}
-use Rattle.wesl_cond_chains.specs.FormulaFaults.{Tells}
+use Rattle.wesl_cond_chains.specs.Evaluation.{TellsPlace}
 use Rattle.wesl_cond_chains.specs.Lists.{alone, element}
 use Rattle.wesl_cond_chains.specs.Nodes.{answers, nodes_forest, replies}
 use Rattle.wesl_cond_faults.specs.Listed.{AreFaults}
-use Rattle.wesl_cond_faults.specs.Places.{Place}
+use Rattle.wesl_cond_chains.specs.Places.{Place}
 use Rattle.wesl_cond_faults.specs.declared.told.Told.{Told}
 use Rattle.wesl_cond_features.specs.Features.{Replies, by_number}
 use Rattle.wesl_cond_features.specs.declared.features.Features.{Features}
-use Rattle.wesl_tree_names.specs.Errors.{IsPlaced}
 use Rattle.wesl_tree_names.specs.Path.{Text}
-use Rattle.wesl_tree_names.specs.declared.errors.Diagnostic.{Diagnostic, out-Diagnostic}
+use Rattle.wesl_tree_names.specs.declared.errors.Diagnostic.{Diagnostic}
 use Rattle.wesl_tree_syntax.specs.Tree.{Forest, Tree}
 use Rattle.wesl_tree_syntax.specs.Unit.{UnitView, forest_of_unit, trees_of}
-
--- a diagnostic tells a fault, each flag by its name in the table, with its span unless that is `0..0`, and nothing else
-abbrev pub TellsPlace : List Text → Place ℕ → Diagnostic → Type 0
-TellsPlace names place told = Tells names (out-Diagnostic told).error place.fault × IsPlaced (out-Diagnostic told).error place.span told
 
 -- diagnostics tell faults one by one
 abbrev pub TellEach : List Text → List (Place ℕ) → List Diagnostic → Type 0

@@ -4,7 +4,7 @@ ghost use Rattle.wesl_cond_chains.specs.Chains.{follows_on};
 ghost use Rattle.wesl_cond_chains.specs.Conditions.{first_condition};
 ghost use Rattle.wesl_cond_chains.specs.Faults.{conditions, opens, place_faults};
 ghost use Rattle.wesl_cond_chains.specs.Nodes.{attributes_forest, condition_of_attribute, is_any, is_several, replies};
-ghost use Rattle.wesl_cond_faults.specs.Places.{condition_places, found_at, all_condition_places};
+ghost use Rattle.wesl_cond_chains.specs.Places.{condition_places, found_at, all_condition_places};
 ghost use Rattle.wesl_cond_faults.specs.Telling.{AddsFaults};
 ghost use Rattle.wesl_tree_names.specs.Path.{Text};
 

@@ -1,6 +1,6 @@
 //! The faults of a formula.
 ghost use Rattle.wesl_cond_chains.specs.Nodes.{replies};
-ghost use Rattle.wesl_cond_faults.specs.Places.{formula_places};
+ghost use Rattle.wesl_cond_chains.specs.Places.{formula_places};
 ghost use Rattle.wesl_cond_faults.specs.Telling.{AddsFaults};
 ghost use Rattle.wesl_cond_chains.specs.Step.{form_of, name_form};
 

@@ -7,7 +7,6 @@ mod declarations;
 mod formula;
 mod laws;
 mod lists;
-mod nodes;
 mod statements;
 mod told;
 mod whole;

@@ -1,17 +1,17 @@
 //! The faults of the conditions of a list.
 ghost use Rattle.std.specs.Prelude.{◌≡◌, Bool, false, is_ok};
 ghost use Rattle.wesl_cond_chains.specs.Nodes.{as_element, replies, closed_nodes, nodes_in};
-ghost use Rattle.wesl_cond_faults.specs.Places.{list_places, node_places, opened_after, opened_through};
+ghost use Rattle.wesl_cond_chains.specs.Places.{list_places, node_places, opened_after, opened_through};
 ghost use Rattle.wesl_cond_faults.specs.Telling.{AddsFaults};
 
 use crate::attributes::{opens, tell_formulas, tell_place};
-use crate::nodes::Located;
 use crate::told::Told;
+use wesl_cond_chains::Conditional;
 use wesl_cond_features::Features;
 use wesl_tree_names::{Diagnostic, Names};
 
 /// Tells the faults of the conditions of the next node of a list, and says whether a chain is open after it.
-fn tell_node<T: Located>(
+fn tell_node<T: Conditional>(
     told: &mut Told,
     node: &T,
     opened: bool,
@@ -25,14 +25,14 @@ fn tell_node<T: Located>(
         return opened;
     }
     let attributes = node.attributes();
-    tell_place(told, attributes, opened, node.place());
+    tell_place(told, attributes, opened, node.span());
     tell_formulas(told, attributes, names, features);
     opens(attributes)
 }
 
 /// Tells the faults of the conditions of the nodes at the beginning of a list, and says whether a chain is open after
 /// them.
-fn tell_nodes<T: Located>(
+fn tell_nodes<T: Conditional>(
     told: &mut Told,
     nodes: &Vec<T>,
     names: &Names,
@@ -56,14 +56,19 @@ pub fn is_clear(outcome: Result<(), Diagnostic>) -> bool
 }
 
 /// Tells the faults of the conditions of the nodes of a list.
-pub fn tell_list<T: Located>(told: &mut Told, nodes: &Vec<T>, names: &Names, features: &Features)
+pub fn tell_list<T: Conditional>(
+    told: &mut Told,
+    nodes: &Vec<T>,
+    names: &Names,
+    features: &Features,
+)
     ensures { AddsFaults names.now (list_places (replies names.now features.now) false (nodes_in T.tree nodes.now.items)) told.old told.new }
 {
     let _ = tell_nodes(told, nodes, names, features);
 }
 
 /// Tells the faults of the conditions of the nodes of a list and of what closes it.
-pub fn tell_both<T: Located, L: Located>(
+pub fn tell_both<T: Conditional, L: Conditional>(
     told: &mut Told,
     nodes: &Vec<T>,
     last: &Option<L>,

@@ -17,7 +17,7 @@ pub struct Told {
 impl Told {
     ghost use Rattle.std.specs.Prelude.{◌≡◌, ◌++◌, [], ◌∷◌, ℕ, List, false};
     ghost use Rattle.wesl_cond_chains.specs.FormulaFaults.{Fault, Tells, invalid_flag, unexpected_flag};
-    ghost use Rattle.wesl_cond_faults.specs.Places.{found_at};
+    ghost use Rattle.wesl_cond_chains.specs.Places.{found_at};
     ghost use Rattle.wesl_cond_faults.specs.Telling.{AddsFaults, IsTold};
     ghost use Rattle.wesl_tree_names.specs.Path.{Text};
     ghost use Rattle.wesl_tree_syntax.specs.Unit.{name_in};

@@ -2,15 +2,16 @@
 use Rattle.std.proofs.Common.{◌≡◌, ℕ, false, List, [], ◌∷◌, map, inl, inr, Option, Some, None, Result, Ok, Err, Vec, Global, Box, refl, sym, ap, ◌∙◌, subst}
 use Rattle.std.specs.Box.{box_value}
 use Rattle.std.specs.Prelude.{MatchResult}
-use Rattle.wesl_cond_chains.specs.Faults.{beside, list_faults}
-use Rattle.wesl_cond_chains.specs.Judging.{IsClear, Checks}
+use Rattle.wesl_cond_chains.specs.Places.{list_places}
+use Rattle.wesl_cond_chains.specs.Evaluation.{Refuses}
+use Rattle.wesl_cond_chains.specs.Faults.{beside}
+use Rattle.wesl_cond_chains.specs.Judging.{IsClear, Checks, RefusesIn}
 use Rattle.wesl_cond_chains.specs.Lists.{elements, alone, is_entered}
 use Rattle.wesl_cond_unit.proofs.Closed.{body_refused, body_checked}
 use Rattle.wesl_cond_unit.proofs.Settled.{view_clause, view_loop}
 use Rattle.wesl_cond_unit.proofs.Standing.{stay, split, in_first, nothing, clear_leaf, passed_by, checks_same, list_checked, first_refused, next_checked, skip}
 use Rattle.wesl_cond_unit.proofs.Views.{view_block, view_compound, view_else, view_else_if, view_for, view_if, view_if_clause, view_switch, view_while}
 use Rattle.wesl_cond_features.specs.Features.{Replies}
-use Rattle.wesl_cond_unit.proofs.Told.{TellsIn, TellsOf}
 use Rattle.wesl_tree_names.specs.Path.{Text}
 use Rattle.wesl_tree_names.specs.declared.errors.Diagnostic.{Diagnostic}
 use Rattle.wesl_tree_syntax.specs.Tree.{Tree, Forest, end, kind, at, before, branch, forest_of, list, present, absent, statement_node, compound_statement, if_statement, if_clause, else_if_clause, else_clause, switch, clauses, switch_clause, loop, for_loop, while_loop}
@@ -120,7 +121,7 @@ module _ (reply : Replies ℕ) (names : List Text) where
         (skip reply names (attributes_tree d.attributes) (forest_of (listed selector_view list d.case_selectors ∷ compound_view d.body ∷ [])) r refl
         (next_checked reply names (listed selector_view list d.case_selectors) (before (compound_view d.body) end) r (clear_list selector_view leaf_selector d.case_selectors) h)))
 
-    pub clauses_checked : (cs : List SwitchClause) → list_faults reply false (elements false (forest_of (map clause_view cs))) ≡ [] → Checks names reply (alone (stay reply) (forest_of (map clause_view cs))) r → Good (branch clauses (map clause_view cs))
+    pub clauses_checked : (cs : List SwitchClause) → list_places reply false (elements false (forest_of (map clause_view cs))) ≡ [] → Checks names reply (alone (stay reply) (forest_of (map clause_view cs))) r → Good (branch clauses (map clause_view cs))
     clauses_checked cs clear h = list_checked reply names (kind clauses) (forest_of (map clause_view cs)) r refl clear refl h
 
     -- statements
@@ -164,22 +165,22 @@ module _ (reply : Replies ℕ) (names : List Text) where
         (list_checked reply names (kind while_loop) (forest_of (attributes_tree a ∷ expression_tree e ∷ compound_view b ∷ [])) r refl refl refl
         (skip reply names (attributes_tree a) (forest_of (expression_tree e ∷ compound_view b ∷ [])) r refl (skip reply names (expression_tree e) (before (compound_view b) end) r refl h)))
 
-    pub compound_body : (b : CompoundStatement) → list_faults reply false (elements false (forest_of (map statement_tree (out-CompoundStatement b).statements.items))) ≡ []
+    pub compound_body : (b : CompoundStatement) → list_places reply false (elements false (forest_of (map statement_tree (out-CompoundStatement b).statements.items))) ≡ []
         → Checks names reply (alone (stay reply) (forest_of (map statement_tree (out-CompoundStatement b).statements.items))) r → Good (compound_view b)
     compound_body b clear h = as_view (compound_view b) _ (view_compound b) (body_checked reply names (out-CompoundStatement b).attributes (map statement_tree (out-CompoundStatement b).statements.items) r clear h)
 
-  pub compound_refused : (b : CompoundStatement) (e : Diagnostic) → TellsOf names (list_faults reply false (elements false (forest_of (map statement_tree (out-CompoundStatement b).statements.items)))) e → TellsIn names reply (before (compound_view b) end) e
-  compound_refused b e h = subst (λ t. TellsIn names reply (before t end) e) (sym (view_compound b)) (body_refused reply names (out-CompoundStatement b).attributes (map statement_tree (out-CompoundStatement b).statements.items) e h)
+  pub compound_refused : (b : CompoundStatement) (e : Diagnostic) → Refuses names (list_places reply false (elements false (forest_of (map statement_tree (out-CompoundStatement b).statements.items)))) e → RefusesIn names reply (before (compound_view b) end) e
+  compound_refused b e h = subst (λ t. RefusesIn names reply (before t end) e) (sym (view_compound b)) (body_refused reply names (out-CompoundStatement b).attributes (map statement_tree (out-CompoundStatement b).statements.items) e h)
 
   -- three trees
   module _ (t u v : Tree) where
     pub three_last : {R : Type 0} (r : Result R Diagnostic) → IsClear reply (before t end) → IsClear reply (before u end) → Checks names reply (before v end) r → Checks names reply (forest_of (t ∷ u ∷ v ∷ [])) r
     three_last r p q h = next_checked reply names t (forest_of (u ∷ v ∷ [])) r p (next_checked reply names u (before v end) r q h)
 
-    pub three_second : (f : Diagnostic) → IsClear reply (before t end) → TellsIn names reply (before u end) f → TellsIn names reply (forest_of (t ∷ u ∷ v ∷ [])) f
+    pub three_second : (f : Diagnostic) → IsClear reply (before t end) → RefusesIn names reply (before u end) f → RefusesIn names reply (forest_of (t ∷ u ∷ v ∷ [])) f
     three_second f p h = next_checked reply names {A = ℕ} t (forest_of (u ∷ v ∷ [])) (Err f) p (first_refused reply names u (before v end) f h)
 
-    pub three_first : (f : Diagnostic) → TellsIn names reply (before t end) f → TellsIn names reply (forest_of (t ∷ u ∷ v ∷ [])) f
+    pub three_first : (f : Diagnostic) → RefusesIn names reply (before t end) f → RefusesIn names reply (forest_of (t ∷ u ∷ v ∷ [])) f
     three_first f h = first_refused reply names t (forest_of (u ∷ v ∷ [])) f h
 
     pub three_in_turn : {R : Type 0} (r s w : Result R Diagnostic) → Checks names reply (before t end) r → Checks names reply (before u end) s → Checks names reply (before v end) w → Checks names reply (forest_of (t ∷ u ∷ v ∷ [])) (in_turn r s w)

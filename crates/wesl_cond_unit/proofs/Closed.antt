@@ -1,14 +1,14 @@
 -- Bodies, and loops with what closes their lists.
 use Rattle.std.proofs.Common.{◌≡◌, ℕ, true, false, List, [], ◌∷◌, ◌++◌, ◌⊎◌, inl, inr, Option, Some, None, Result, Err, Vec, Global, refl, sym, ap, ◌∙◌, subst}
-use Rattle.wesl_cond_chains.specs.Faults.{Stands, inside, beside, list_faults, list_at}
-use Rattle.wesl_cond_chains.specs.Judging.{IsClear, Checks, closing}
+use Rattle.wesl_cond_chains.specs.Places.{StandsAt, list_places, Place}
+use Rattle.wesl_cond_chains.specs.Evaluation.{Refuses}
+use Rattle.wesl_cond_chains.specs.Faults.{inside, beside, list_at}
+use Rattle.wesl_cond_chains.specs.Judging.{IsClear, Checks, closing, RefusesIn}
 use Rattle.wesl_cond_chains.specs.Lists.{Element, elements, back, option_of, alone, judged, is_entered, is_closed, holds_body}
 use Rattle.wesl_cond_chains.specs.Nodes.{optional_forest}
 use Rattle.wesl_cond_unit.proofs.Standing.{stay, below, held_body, in_held_body, held_option, in_held_option, passed_by, refuses_more, checks_same, list_refused, list_checked, skip}
 use Rattle.wesl_cond_unit.proofs.Walked.{open_front}
-use Rattle.wesl_cond_chains.specs.FormulaFaults.{Fault}
 use Rattle.wesl_cond_features.specs.Features.{Replies, known}
-use Rattle.wesl_cond_unit.proofs.Told.{TellsIn, TellsOf}
 use Rattle.wesl_tree_names.specs.Path.{Text}
 use Rattle.wesl_tree_names.specs.declared.errors.Diagnostic.{Diagnostic}
 use Rattle.wesl_tree_syntax.specs.Tree.{Label, Forest, Tree, end, tree, kind, before, forest_of, branch, compound, statements}
@@ -21,12 +21,12 @@ module _ (reply : Replies ℕ) (names : List Text) where
   abbrev pub body : Vec (Spanned Attribute) Global → List Tree → Tree
   body a ts = branch compound (attributes_tree a ∷ branch statements ts ∷ [])
 
-  pub body_refused : (a : Vec (Spanned Attribute) Global) (ts : List Tree) (e : Diagnostic) → TellsOf names (list_faults reply false (elements false (forest_of ts))) e → TellsIn names reply (before (body a ts) end) e
+  pub body_refused : (a : Vec (Spanned Attribute) Global) (ts : List Tree) (e : Diagnostic) → Refuses names (list_places reply false (elements false (forest_of ts))) e → RefusesIn names reply (before (body a ts) end) e
   body_refused a ts e h =
       list_checked reply names {A = ℕ} (kind compound) (forest_of (attributes_tree a ∷ branch statements ts ∷ [])) (Err e) refl refl refl
       (skip reply names {A = ℕ} (attributes_tree a) (before (branch statements ts) end) (Err e) refl (list_refused reply names (kind statements) (forest_of ts) e refl h))
 
-  pub body_checked : {A : Type 0} (a : Vec (Spanned Attribute) Global) (ts : List Tree) (r : Result A Diagnostic) → list_faults reply false (elements false (forest_of ts)) ≡ [] → Checks names reply (alone (stay reply) (forest_of ts)) r → Checks names reply (before (body a ts) end) r
+  pub body_checked : {A : Type 0} (a : Vec (Spanned Attribute) Global) (ts : List Tree) (r : Result A Diagnostic) → list_places reply false (elements false (forest_of ts)) ≡ [] → Checks names reply (alone (stay reply) (forest_of ts)) r → Checks names reply (before (body a ts) end) r
   body_checked a ts r none h =
       list_checked reply names (kind compound) (forest_of (attributes_tree a ∷ branch statements ts ∷ [])) r refl refl refl
       (skip reply names (attributes_tree a) (before (branch statements ts) end) r refl (list_checked reply names (kind statements) (forest_of ts) r refl none refl h))
@@ -53,36 +53,36 @@ module _ (reply : Replies ℕ) (names : List Text) where
     holds : holds_body false l ≡ true
     holds = rw closes refl
 
-    in_rebuilt : (kept : List (Element ℕ)) (f : Fault ℕ) → Stands reply true (rebuilt kept) f → Stands reply false (back false kept) f ⊎ Stands reply false (back true kept) f
+    in_rebuilt : (kept : List (Element ℕ)) (f : Place ℕ) → StandsAt reply true (rebuilt kept) f → StandsAt reply false (back false kept) f ⊎ StandsAt reply false (back true kept) f
     in_rebuilt kept f s = elim (held_body reply (back false kept) (option_of (back true kept) end) b f (passed_by reply true (attributes_tree a).label (attributes_tree a).children (tree (kind compound) (before (attributes_tree b) (tree (kind statements) (back false kept) end)) (option_of (back true kept) end)) refl f s)) [
       | inl s ↦ inl s
       | inr s ↦ inr (held_option reply (back true kept) f s)
     ]
 
-    parts_of : (o : Option B) → list_faults reply false (all o) ≡ [] → (f : Fault ℕ) → Stands reply false (tree l (held o) end) f → Stands reply false (alone (stay reply) (forest_of ts)) f ⊎ Stands reply false (closing (known reply) (forest_of ts) (optional_forest last o)) f
+    parts_of : (o : Option B) → list_places reply false (all o) ≡ [] → (f : Place ℕ) → StandsAt reply false (tree l (held o) end) f → StandsAt reply false (alone (stay reply) (forest_of ts)) f ⊎ StandsAt reply false (closing (known reply) (forest_of ts) (optional_forest last o)) f
     parts_of o none f s =
-        let inner = subst (λ t. Stands reply true t f) (what_stays o) (subst (λ h. Stands reply h (judged (stay reply) false l (held o)) f) holds (below reply false l (held o) (ap (list_faults reply false) (its_list o) ∙ none) f s)) in
+        let inner = subst (λ t. StandsAt reply true t f) (what_stays o) (subst (λ h. StandsAt reply h (judged (stay reply) false l (held o)) f) holds (below reply false l (held o) (ap (list_places reply false) (its_list o) ∙ none) f s)) in
         elim (in_rebuilt (stay reply (all o)) f inner) [
-          | inl s ↦ inl (subst (λ t. Stands reply false t f) (open_front (known reply) (forest_of ts) (optional_forest last o)) s)
+          | inl s ↦ inl (subst (λ t. StandsAt reply false t f) (open_front (known reply) (forest_of ts) (optional_forest last o)) s)
           | inr s ↦ inr s
         ]
 
-    from_inside : (o : Option B) → list_faults reply false (all o) ≡ [] → (f : Fault ℕ) → Stands reply true (rebuilt (stay reply (all o))) f → Stands reply false (tree l (held o) end) f
-    from_inside o none f s = inside entered (ap (list_faults reply false) (its_list o) ∙ none) (subst (λ h. Stands reply h (judged (stay reply) false l (held o)) f) (sym holds) (subst (λ t. Stands reply true t f) (sym (what_stays o)) s))
+    from_inside : (o : Option B) → list_places reply false (all o) ≡ [] → (f : Place ℕ) → StandsAt reply true (rebuilt (stay reply (all o))) f → StandsAt reply false (tree l (held o) end) f
+    from_inside o none f s = inside entered (ap (list_places reply false) (its_list o) ∙ none) (subst (λ h. StandsAt reply h (judged (stay reply) false l (held o)) f) (sym holds) (subst (λ t. StandsAt reply true t f) (sym (what_stays o)) s))
 
-    of_front : (o : Option B) → list_faults reply false (all o) ≡ [] → (f : Fault ℕ) → Stands reply false (alone (stay reply) (forest_of ts)) f → Stands reply false (tree l (held o) end) f
-    of_front o none f s = from_inside o none f (beside (in_held_body reply (back false (stay reply (all o))) (option_of (back true (stay reply (all o))) end) b f (subst (λ t. Stands reply false t f) (sym (open_front (known reply) (forest_of ts) (optional_forest last o))) s)))
+    of_front : (o : Option B) → list_places reply false (all o) ≡ [] → (f : Place ℕ) → StandsAt reply false (alone (stay reply) (forest_of ts)) f → StandsAt reply false (tree l (held o) end) f
+    of_front o none f s = from_inside o none f (beside (in_held_body reply (back false (stay reply (all o))) (option_of (back true (stay reply (all o))) end) b f (subst (λ t. StandsAt reply false t f) (sym (open_front (known reply) (forest_of ts) (optional_forest last o))) s)))
 
-    of_last : (o : Option B) → list_faults reply false (all o) ≡ [] → (f : Fault ℕ) → Stands reply false (closing (known reply) (forest_of ts) (optional_forest last o)) f → Stands reply false (tree l (held o) end) f
+    of_last : (o : Option B) → list_places reply false (all o) ≡ [] → (f : Place ℕ) → StandsAt reply false (closing (known reply) (forest_of ts) (optional_forest last o)) f → StandsAt reply false (tree l (held o) end) f
     of_last o none f s = from_inside o none f (beside (beside (in_held_option reply (back true (stay reply (all o))) f s)))
 
-    pub closed_refused : (o : Option B) (e : Diagnostic) → TellsOf names (list_faults reply false (all o)) e → TellsIn names reply (tree l (held o) end) e
-    closed_refused o e h = list_refused reply names l (held o) e entered (subst (λ xs. TellsOf names (list_faults reply false xs) e) (sym (its_list o)) h)
+    pub closed_refused : (o : Option B) (e : Diagnostic) → Refuses names (list_places reply false (all o)) e → RefusesIn names reply (tree l (held o) end) e
+    closed_refused o e h = list_refused reply names l (held o) e entered (subst (λ xs. Refuses names (list_places reply false xs) e) (sym (its_list o)) h)
 
-    pub front_refused : (o : Option B) (e : Diagnostic) → list_faults reply false (all o) ≡ [] → TellsIn names reply (alone (stay reply) (forest_of ts)) e → TellsIn names reply (tree l (held o) end) e
+    pub front_refused : (o : Option B) (e : Diagnostic) → list_places reply false (all o) ≡ [] → RefusesIn names reply (alone (stay reply) (forest_of ts)) e → RefusesIn names reply (tree l (held o) end) e
     front_refused o e none h = refuses_more reply names (alone (stay reply) (forest_of ts)) (tree l (held o) end) e (of_front o none) h
 
-    pub closed_checked : {A : Type 0} (o : Option B) (r : Result A Diagnostic) → list_faults reply false (all o) ≡ [] → IsClear reply (alone (stay reply) (forest_of ts)) → Checks names reply (closing (known reply) (forest_of ts) (optional_forest last o)) r → Checks names reply (tree l (held o) end) r
+    pub closed_checked : {A : Type 0} (o : Option B) (r : Result A Diagnostic) → list_places reply false (all o) ≡ [] → IsClear reply (alone (stay reply) (forest_of ts)) → Checks names reply (closing (known reply) (forest_of ts) (optional_forest last o)) r → Checks names reply (tree l (held o) end) r
     closed_checked o r none clear h = checks_same reply names (closing (known reply) (forest_of ts) (optional_forest last o)) (tree l (held o) end) r
         (λ f s. elim (parts_of o none f s) [
           | inl s ↦ absurd (clear f s)
@@ -90,7 +90,7 @@ module _ (reply : Replies ℕ) (names : List Text) where
         ])
         (of_last o none) h
 
-    pub closed_front : {A : Type 0} (o : Option B) (r : Result A Diagnostic) → list_faults reply false (all o) ≡ [] → IsClear reply (closing (known reply) (forest_of ts) (optional_forest last o)) → Checks names reply (alone (stay reply) (forest_of ts)) r → Checks names reply (tree l (held o) end) r
+    pub closed_front : {A : Type 0} (o : Option B) (r : Result A Diagnostic) → list_places reply false (all o) ≡ [] → IsClear reply (closing (known reply) (forest_of ts) (optional_forest last o)) → Checks names reply (alone (stay reply) (forest_of ts)) r → Checks names reply (tree l (held o) end) r
     closed_front o r none clear h = checks_same reply names (alone (stay reply) (forest_of ts)) (tree l (held o) end) r
         (λ f s. elim (parts_of o none f s) [
           | inl s ↦ s

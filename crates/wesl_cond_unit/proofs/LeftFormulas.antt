@@ -11,7 +11,7 @@ use Rattle.wesl_cond_features.specs.declared.features.Truth.{Truth}
 use Rattle.wesl_cond_features.specs.declared.features.Truth.TheVariants.{Yes, No, Undecided}
 use Rattle.wesl_cond_chains.specs.Chains.{Condition, none, on, else_on, otherwise, recast_condition, residual_list}
 use Rattle.wesl_cond_chains.specs.Conditions.{is_void}
-use Rattle.wesl_cond_chains.specs.Faults.{condition_faults, conditions, conditions_of, opens, place_faults, list_faults}
+use Rattle.wesl_cond_chains.specs.Faults.{and_rest, condition_faults, conditions, conditions_of, opens, place_faults, list_faults}
 use Rattle.wesl_cond_chains.specs.FormulaFaults.{Fault, faults_if_refused, formula_faults}
 use Rattle.wesl_cond_chains.specs.FormulaResidual.{literal, flag_as, parenthesized, negated_as, both_as, either_as, residual}
 use Rattle.wesl_cond_chains.specs.Formulas.{Form, Spot, always, never, flag, templated, within, negation, conjunction, disjunction, other}
@@ -21,7 +21,6 @@ use Rattle.wesl_cond_chains.proofs.Kept.{Each, each_stays, each_left}
 use Rattle.wesl_cond_chains.proofs.ListFaults.{list_left}
 use Rattle.wesl_cond_chains.proofs.NodeLaws.{element_laws, recast_all, conditions_in_role}
 use Rattle.wesl_cond_chains.proofs.Passing.{inside, attributes_through, void_inside}
-use Rattle.wesl_cond_chains.proofs.Places.{formulas_next}
 use Rattle.wesl_cond_chains.proofs.TreeStages.{residual_tidy}
 use Rattle.wesl_tree_syntax.specs.Tree.{ForestOf, end, tree}
 
@@ -105,10 +104,16 @@ module _ (reply : Replies ℕ) where
   abbrev formulas : List (Condition ℕ) → List (Fault ℕ)
   formulas = flat_map (condition_faults reply)
 
+  formulas_next : (c : Condition ℕ) (cs : List (Condition ℕ)) → formulas (and_rest c cs) ≡ condition_faults reply c ++ formulas cs
+  formulas_next none cs = refl
+  formulas_next (on x) cs = refl
+  formulas_next (else_on x) cs = refl
+  formulas_next otherwise cs = refl
+
   conditions_left : (r : Role) (cs : List (Condition ℕ)) → formulas cs ≡ [] → formulas (recast_all K r cs) ≡ []
   conditions_left r [] e = refl
   conditions_left r (c ∷ cs) e =
-      formulas_next reply (recast_condition K r c) (recast_all K r cs)
+      formulas_next (recast_condition K r c) (recast_all K r cs)
       ∙ none_in_both _ _ (condition_left r c (none_before (condition_faults reply c) (formulas cs) e)) (conditions_left r cs (none_after (condition_faults reply c) (formulas cs) e))
 
   -- Nodes whose formulas have no fault.

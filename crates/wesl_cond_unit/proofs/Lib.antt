@@ -1,4 +1,3 @@
-pub mod Told
 pub mod Walk
 pub mod Fronts
 pub mod Views

@@ -2,11 +2,12 @@
 use Rattle.std.proofs.Common.{◌≡◌, ℕ, Bool, true, false, cond, ◌&&◌, List, [], ◌∷◌, ◌++◌, map, drop, length, ◌≤◌, ◌<◌, ◌+◌, get_or, zero, suc, filter, inl, inr, Option, Some, None, Result, Ok, Err, refl, sym, ap, ◌∙◌, subst, append-nil, arith}
 use Rattle.std.specs.List.{flat_map}
 use Rattle.std.proofs.lemmas.List.{drop_more}
+use Rattle.wesl_cond_chains.specs.Places.{StandsAt, Place}
 use Rattle.wesl_cond_features.specs.declared.chain.Role.{Role}
 use Rattle.wesl_cond_chains.specs.Chains.{staying, residual_chain, residual_after, headed, later, live, chains, is_node, is_branch, branch}
 use Rattle.wesl_cond_chains.specs.Conditions.{is_void}
-use Rattle.wesl_cond_chains.specs.Faults.{Stands, beside}
-use Rattle.wesl_cond_chains.specs.Judging.{IsClear, Checks, closing}
+use Rattle.wesl_cond_chains.specs.Faults.{beside}
+use Rattle.wesl_cond_chains.specs.Judging.{IsClear, Checks, closing, RefusesIn}
 use Rattle.wesl_cond_chains.specs.Lists.{Element, element, still, elements, back, alone, is_entered}
 use Rattle.wesl_cond_chains.specs.Nodes.{as_element}
 use Rattle.wesl_cond_chains.specs.Following.{IsTurn}
@@ -14,9 +15,7 @@ use Rattle.wesl_cond_features.specs.Branch.{fate, kept_after, decided_after}
 use Rattle.wesl_cond_unit.proofs.Walk.{enact, scan, scan_is, scan_after}
 use Rattle.wesl_cond_unit.proofs.Standing.{stay, split, nothing, clear_leaf, passed_by, refuses_more, first_refused}
 use Rattle.wesl_cond_features.specs.Answers.{Answers}
-use Rattle.wesl_cond_chains.specs.FormulaFaults.{Fault}
 use Rattle.wesl_cond_features.specs.Features.{Replies, known}
-use Rattle.wesl_cond_unit.proofs.Told.{TellsIn}
 use Rattle.wesl_tree_names.specs.Path.{Text}
 use Rattle.wesl_tree_names.specs.declared.errors.Diagnostic.{Diagnostic}
 use Rattle.wesl_tree_syntax.specs.Tree.{Label, Forest, Tree, end, tree, before, forest_of}
@@ -27,10 +26,10 @@ on_from reply kept decided xs = back false (residual_after still (known reply) k
 
 -- the next node of a list judged inside if it stays: the faults in what stays are those in what stays of the rest, or one is told
 abbrev pub Walks : {A : Type 0} → List Text → Replies ℕ → Bool → Bool → Element ℕ → Bool → Bool → Result A Diagnostic → Type 0
-Walks names reply kept decided x kept' decided' (Ok done) = (rest : List (Element ℕ)) (f : Fault ℕ)
-    → (Stands reply false (on_from reply kept decided (x ∷ rest)) f → Stands reply false (on_from reply kept' decided' rest) f)
-    × (Stands reply false (on_from reply kept' decided' rest) f → Stands reply false (on_from reply kept decided (x ∷ rest)) f)
-Walks names reply kept decided x kept' decided' (Err e) = (rest : List (Element ℕ)) → TellsIn names reply (on_from reply kept decided (x ∷ rest)) e
+Walks names reply kept decided x kept' decided' (Ok done) = (rest : List (Element ℕ)) (f : Place ℕ)
+    → (StandsAt reply false (on_from reply kept decided (x ∷ rest)) f → StandsAt reply false (on_from reply kept' decided' rest) f)
+    × (StandsAt reply false (on_from reply kept' decided' rest) f → StandsAt reply false (on_from reply kept decided (x ∷ rest)) f)
+Walks names reply kept decided x kept' decided' (Err e) = (rest : List (Element ℕ)) → RefusesIn names reply (on_from reply kept decided (x ∷ rest)) e
 
 -- A list as elements.
 elements_of : (closes : Bool) (ts : List Tree) → elements closes (forest_of ts) ≡ map (as_element closes) ts
@@ -131,10 +130,10 @@ module _ (answers : Answers ℕ) where
 -- Walking on.
 module _ (reply : Replies ℕ) where
   abbrev pub Alike : Forest → Forest → Type 0
-  Alike a b = (f : Fault ℕ) → (Stands reply false a f → Stands reply false b f) × (Stands reply false b f → Stands reply false a f)
+  Alike a b = (f : Place ℕ) → (StandsAt reply false a f → StandsAt reply false b f) × (StandsAt reply false b f → StandsAt reply false a f)
 
   pub alike_equal : (a b : Forest) → a ≡ b → Alike a b
-  alike_equal a b e f = (λ s. subst (λ t. Stands reply false t f) e s, λ s. subst (λ t. Stands reply false t f) (sym e) s)
+  alike_equal a b e f = (λ s. subst (λ t. StandsAt reply false t f) e s, λ s. subst (λ t. StandsAt reply false t f) (sym e) s)
 
   pub alike_then : (a b c : Forest) → Alike a b → Alike b c → Alike a c
   alike_then a b c p q f = (λ s. (q f).0 ((p f).0 s), λ s. (p f).1 ((q f).1 s))
@@ -161,7 +160,7 @@ module _ (reply : Replies ℕ) where
         λ s. beside s,
       ))
   walks_in names k d k' d' b t (Err e) is turn refused = λ rest.
-      subst (λ a. TellsIn names reply a e) (sym (goes_in k d k' d' b t is turn rest)) (first_refused reply names t (on_from reply k' d' rest) e refused)
+      subst (λ a. RefusesIn names reply a e) (sym (goes_in k d k' d' b t is turn rest)) (first_refused reply names t (on_from reply k' d' rest) e refused)
 
   -- The loop over a list.
   module _ {A : Type 0} (view : A → Tree) where
@@ -185,7 +184,7 @@ module _ (reply : Replies ℕ) where
         (subst (λ v. Alike a (on_from reply k d (as_element false (view v) ∷ rest))) (sym is) (subst (λ l. Alike a (on_from reply k d (nodes l))) (drop_more xs i x lt) so_far))
         (walked rest)
 
-    pub left_refused : (B : Type 0) (names : List Text) (xs : List A) (i : ℕ) (k d k' d' : Bool) (x : A) (e : Diagnostic) → i < length xs → x ≡ get_or xs i x → IsLeft xs i k d → Walks {A = B} names reply k d (as_element false (view x)) k' d' (Err e) → TellsIn names reply (alone (stay reply) (forest_of (map view xs))) e
+    pub left_refused : (B : Type 0) (names : List Text) (xs : List A) (i : ℕ) (k d k' d' : Bool) (x : A) (e : Diagnostic) → i < length xs → x ≡ get_or xs i x → IsLeft xs i k d → Walks {A = B} names reply k d (as_element false (view x)) k' d' (Err e) → RefusesIn names reply (alone (stay reply) (forest_of (map view xs))) e
     left_refused B names xs i k d k' d' x e lt is so_far walked =
         let a = alone (stay reply) (forest_of (map view xs)) in
         let rest = nodes (drop (i + 1) xs) in
@@ -199,7 +198,7 @@ module _ (reply : Replies ℕ) where
     none_after (x ∷ xs) (suc i) h = none_after xs i (omega arith)
 
     pub left_clear : (xs : List A) (i : ℕ) (k d : Bool) → length xs ≤ i → IsLeft xs i k d → IsClear reply (alone (stay reply) (forest_of (map view xs)))
-    left_clear xs i k d le left f s = nothing reply f (subst (λ l. Stands reply false (on_from reply k d (nodes l)) f) (none_after xs i le) ((left f).0 s))
+    left_clear xs i k d le left f s = nothing reply f (subst (λ l. StandsAt reply false (on_from reply k d (nodes l)) f) (none_after xs i le) ((left f).0 s))
 
     -- A list that is not judged.
     abbrev pub IsListed : List A → ℕ → Type 0
@@ -220,13 +219,13 @@ module _ (reply : Replies ℕ) where
           λ s. beside s,
         ))
 
-    pub listed_refused : (names : List Text) (xs : List A) (i : ℕ) (x : A) (e : Diagnostic) → i < length xs → x ≡ get_or xs i x → IsListed xs i → TellsIn names reply (before (view x) end) e → TellsIn names reply (forest_of (map view xs)) e
+    pub listed_refused : (names : List Text) (xs : List A) (i : ℕ) (x : A) (e : Diagnostic) → i < length xs → x ≡ get_or xs i x → IsListed xs i → RefusesIn names reply (before (view x) end) e → RefusesIn names reply (forest_of (map view xs)) e
     listed_refused names xs i x e lt is so_far refused =
         let rest = forest_of (map view (drop (i + 1) xs)) in
         refuses_more reply names (before (view x) rest) (forest_of (map view xs)) e (λ f s. (listed_here xs i x lt is so_far f).1 s) (first_refused reply names (view x) rest e refused)
 
     pub listed_clear : (xs : List A) (i : ℕ) → length xs ≤ i → IsListed xs i → IsClear reply (forest_of (map view xs))
-    listed_clear xs i le left f s = nothing reply f (subst (λ l. Stands reply false (forest_of (map view l)) f) (none_after xs i le) ((left f).0 s))
+    listed_clear xs i le left f s = nothing reply f (subst (λ l. StandsAt reply false (forest_of (map view l)) f) (none_after xs i le) ((left f).0 s))
 
     -- nodes that hold no list
     leaf_piece : (v : Bool) (o : Option Role) (x : A) (rs ss : List (Element ℕ)) → is_entered (view x).label ≡ false → IsClear reply (back false rs) → IsClear reply (back false ss)
@@ -244,7 +243,7 @@ module _ (reply : Replies ℕ) where
         leaf_piece (is_void (view x).label (view x).children) (fate_of (known reply) k d y) x (scan still (known reply) k d (nodes xs)) (scan still (known reply) k' d' (nodes xs)) (leaf x) (clear_from leaf k d xs) (clear_from leaf k' d' xs)
 
     pub clear_nodes : (leaf : (x : A) → is_entered (view x).label ≡ false) (xs : List A) → IsClear reply (alone (stay reply) (forest_of (map view xs)))
-    clear_nodes leaf xs f s = clear_from leaf false false xs f (subst (λ ys. Stands reply false (back false ys) f) (sym (scan_after still (known reply) false false (nodes xs))) ((left_at_start xs false false refl refl f).0 s))
+    clear_nodes leaf xs f s = clear_from leaf false false xs f (subst (λ ys. StandsAt reply false (back false ys) f) (sym (scan_after still (known reply) false false (nodes xs))) ((left_at_start xs false false refl refl f).0 s))
 
   -- what closes a list and holds no list
   module _ (t : Tree) (leaf : is_entered t.label ≡ false) where
@@ -269,4 +268,4 @@ module _ (reply : Replies ℕ) where
         open_piece (is_void l c) (fate_of (known reply) k d x) l c (scan still (known reply) k d (elements false o ++ last)) (scan still (known reply) k' d' (elements false o ++ last)) (clear_last o k d) (clear_last o k' d')
 
     pub closing_leaf : (f : Forest) → IsClear reply (closing (known reply) f (before t end))
-    closing_leaf f g s = clear_last f false false g (subst (λ xs. Stands reply false (back true xs) g) (staying_is (known reply) (elements false f ++ as_element true t ∷ [])) s)
+    closing_leaf f g s = clear_last f false false g (subst (λ xs. StandsAt reply false (back true xs) g) (staying_is (known reply) (elements false f ++ as_element true t ∷ [])) s)

@@ -17,7 +17,7 @@ pub use steps::names_given;
 pub use together::are_together;
 use wesl_cond::{Feature, Features};
 use wesl_json::{unit_of_value, value_of_unit};
-use wesl_link::{Resolver, link_under};
+use wesl_link::{LinkRequest, Resolver, link_under};
 use wesl_mangle::EscapeMangler;
 use wesl_scope::{Builtins, Reading, clashes, free_names, names_clash};
 use wesl_tree::{Diagnostic, Error, ModulePath, ResolveError, TranslationUnit};
@@ -45,15 +45,11 @@ impl Trees {
 }
 
 impl Resolver for Trees {
-    ghost ready = { λ _. Unit {0} };
-
     ghost hands = { λ _ p u. Unit {0} };
 
     ghost refuses = { λ _ p e. Unit {0} };
 
     ghost source = { λ _ p text. Unit {0} };
-
-    ghost lacks = { λ _ p e. Unit {0} };
 
     ghost shown = { λ _ p name. Unit {0} };
 
@@ -90,15 +86,13 @@ fn linked(alloc: Global, modules: Trees) -> Result<TranslationUnit, Diagnostic> 
         .insert(String::from_str(alloc, "fast")?, Feature::Enable)?;
     let mut root = ModulePath::new_root(alloc);
     root.push("main")?;
-    let mut found = link_under(
-        alloc,
-        &["main"],
-        false,
-        &root,
-        modules,
-        &Some(features),
-        1000,
-    )?;
+    let request = LinkRequest {
+        root: &root,
+        keep: &["main"],
+        is_eager: false,
+        max_modules: 1000,
+    };
+    let mut found = link_under(alloc, &request, modules, Some(&features))?;
     found.mangle(alloc, &mut EscapeMangler, false)?;
     Ok(found.assemble(alloc, true)?)
 }

@@ -5,7 +5,9 @@ ghost use Rattle.wesl_link_engine.specs.Recorded.{IsRecordedBy};
 ghost use Rattle.wesl_link_engine.specs.Resolved.{writes};
 ghost use Rattle.wesl_link.specs.Keeping.{modules_of};
 ghost use Rattle.wesl_source_map_entries.specs.Records.{SameItems};
-ghost use Rattle.wesl_source_map.specs.BasicView.{items};
+ghost use Rattle.wesl_source_map.specs.BasicView.{items, sources};
+ghost use Rattle.wesl_source_map.specs.Recording.{GainsSources};
+ghost use Rattle.wesl_source_map.specs.Starting.{KeepsStart};
 
 use std::alloc::Global;
 use std::marker::{Brand, PhantomData};
@@ -24,7 +26,7 @@ pub struct MappedLink<R, M> {
 }
 
 /// Links a root's unit through a mapper. The mapper is asked as `Asked`: so the items that it had recorded, and the names
-/// that its mangler gives, are known to be the same afterwards.
+/// that its mangler gives, are known to be the same afterwards, and its sources to be those that it had and the resolver's.
 fn link_asked<R: Resolver + Drop, M: Mangler + Drop, S: Start>(
     alloc: Global,
     keep: &[&str],
@@ -34,10 +36,8 @@ fn link_asked<R: Resolver + Drop, M: Mangler + Drop, S: Start>(
 ) -> Result<MappedLink<R, M>, Diagnostic>
     requires ready { R.ready mapper.resolver }
     requires asked { is_relative (path_view path.now) ≡ false }
-    requires start { SameItems S.items (items mapper.sourcemap) }
-    requires names { (p : Path) (i : Text) → M.name_of mapper.mangler p i ≡ S.name_of p i }
-    ensures start { IfOk result (λ f. SameItems S.items (items f.mapper.sourcemap)) }
-    ensures names { IfOk result (λ f. (p : Path) (i : Text) → M.name_of f.mapper.mangler p i ≡ S.name_of p i) }
+    requires start { KeepsStart S.Start R.Resolver M.Mangler mapper }
+    ensures start { IfOk result (λ f. KeepsStart S.Start R.Resolver M.Mangler f.mapper) }
 {
     let mut asked = Asked::<R, M, S> {
         mapper,
@@ -52,7 +52,8 @@ fn link_asked<R: Resolver + Drop, M: Mangler + Drop, S: Start>(
     }
 }
 
-/// Links a root's unit through a mapper, which has the same items recorded afterwards and gives the same names.
+/// Links a root's unit through a mapper, which has the same items recorded afterwards, gives the same names, and has gained
+/// sources of its resolver alone.
 pub fn link_by<R: Resolver + Drop, M: Mangler + Drop>(
     alloc: Global,
     keep: &[&str],
@@ -64,6 +65,7 @@ pub fn link_by<R: Resolver + Drop, M: Mangler + Drop>(
     requires asked { is_relative (path_view path.now) ≡ false }
     ensures items { IfOk result (λ f. SameItems (items mapper.sourcemap) (items f.mapper.sourcemap)) }
     ensures names { IfOk result (λ f. (p : Path) (i : Text) → M.name_of f.mapper.mangler p i ≡ M.name_of mapper.mangler p i) }
+    ensures sources { IfOk result (λ f. GainsSources (sources mapper.sourcemap) (R.source mapper.resolver) (R.shown mapper.resolver) (sources f.mapper.sourcemap)) }
 {
     link_asked::<R, M, Brand>(alloc, keep, unit, path, mapper)
 }

@@ -2,7 +2,7 @@
 use crate::Trees;
 use serde_json::Value;
 use std::alloc::Global;
-use wesl_link::{FoundLink, find_mapped};
+use wesl_link::{FoundLink, LinkRequest, find_mapped};
 use wesl_mangle::EscapeMangler;
 use wesl_source_map::{BasicSourceMap, SourceMapper};
 use wesl_tree::{Diagnostic, Error, ModulePath};
@@ -11,8 +11,14 @@ use wesl_tree::{Diagnostic, Error, ModulePath};
 fn found(alloc: Global, modules: Trees) -> Result<FoundLink<EscapeMangler>, Diagnostic> {
     let mut root = ModulePath::new_root(alloc);
     root.push("main")?;
-    let mapper = SourceMapper::new(alloc, root, modules, EscapeMangler);
-    find_mapped(alloc, &["main"], false, mapper, &None, 1000)
+    let mapper = SourceMapper::new(alloc, root.try_clone(alloc)?, modules, EscapeMangler);
+    let request = LinkRequest {
+        root: &root,
+        keep: &["main"],
+        is_eager: false,
+        max_modules: 1000,
+    };
+    find_mapped(alloc, &request, mapper, None)
 }
 
 /// A line for each name of a map, with the item that it stands for.

@@ -1,6 +1,7 @@
 //! What is written, and how the program ends.
-ghost use Rattle.std.specs.Prelude.{string_bytes, IfOk};
-ghost use Rattle.wesl_explain.specs.Ends.{Ends};
+ghost use Rattle.std.specs.Prelude.{◌≡◌, string_bytes, IfOk};
+ghost use Rattle.std.specs.Process.{exit_status};
+ghost use Rattle.wesl_explain.specs.Ends.{Ends, status_of};
 ghost use Rattle.wesl_explain.specs.Explained.{IsToldOf};
 
 use crate::as_json::json_of;
@@ -23,8 +24,10 @@ pub enum Ending {
 }
 
 impl Ending {
-    /// The status: 0, 1 and 2.
-    pub fn status(self) -> ExitCode {
+    /// The status: 0 where the bundle links, 1 where it is refused, and 2 where a write failed.
+    pub fn status(self) -> ExitCode
+        ensures { exit_status result ≡ status_of self }
+    {
         match self {
             Ending::Linked => ExitCode::SUCCESS,
             Ending::Refused => ExitCode::from(1),

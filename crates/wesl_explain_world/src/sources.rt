@@ -80,7 +80,7 @@ impl Resolver for Sources<'_> {
             Ok(unit) => unit,
             Err(refusal) => return Err(refusal),
         };
-        match condition(alloc, unit, &self.features) {
+        match condition(alloc, unit, self.features.as_ref()) {
             Ok(unit) => Ok(unit),
             Err(fault) => Err(refused(alloc, fault, path, None, None)),
         }

@@ -1,5 +1,5 @@
 -- What a text says of a unit, from what is told of its value.
-use Rattle.std.proofs.Common.{◌≡◌, ◌⊎◌, inl, inr, Bool, Result, Ok, Err, IfErr, Some, false, refl, ap, ◌∙◌, string_bytes, ⊎_elim}
+use Rattle.std.proofs.Common.{◌≡◌, ◌⊎◌, inl, inr, Bool, Option, Result, Ok, Err, IfErr, Some, None, false, refl, sym, ap, ◌∙◌, subst, string_bytes, ⊎_elim}
 use Rattle.serde_json.specs.Data.{Data}
 use Rattle.serde_json.specs.Read.{read}
 use Rattle.serde_json.specs.Written.{compact_text, has_float}
@@ -10,11 +10,12 @@ use Rattle.wesl_tree_syntax.specs.Unit.{UnitView, spelled}
 use Rattle.wesl_tree.specs.Translation.{unit_view}
 use Rattle.wesl_tree.specs.declared.unit.TranslationUnit.{TranslationUnit}
 use Rattle.wesl_json_form.specs.Units.{written_as, IsBrokenUnit, IsNoUnit}
-use Rattle.wesl_json_light.specs.Readable.{UnitsReadBack}
+use Rattle.wesl_json_light.specs.Readable.{IsReadable, UnitsReadBack}
+use Rattle.wesl_json.specs.ReadAgain.{OfWritten}
 use Rattle.wesl_json.specs.Texts.{IsNoJson, IsTextOf}
 use Rattle.wesl_json_read.specs.Faults.{IfPlace}
 use Rattle.wesl_json.proofs.Again.{spelled-written}
-use Rattle.wesl_json.specs.UnitTexts.{chosen_value, shows_span, IsUnreadable, PrintsAs}
+use Rattle.wesl_json.specs.UnitTexts.{chosen_value, shows_span, IsUnreadable, OfText, PrintsAs}
 
 pub both-err : {T E : Type 0} {P Q R : E → Type 0} (r : Result T E) → IfErr r P → IfErr r Q → ((e : E) → P e → Q e → R e) → IfErr r R
 both-err (Ok x) h k f = tt
@@ -27,6 +28,22 @@ unreadable text d _ r p q = absurd p
 
 pub no-json : (text : Text) (e : error.Error) → IsNoJson text e → (e ≡ error.Memory) ⊎ IsUnreadable text e
 no-json text e h = ⊎_elim inl (λ k. inr (inl k)) h
+
+-- the value of a text is one
+abbrev of_some : Data → Option Data → Data
+of_some d None = d
+of_some d (Some e) = e
+
+pub of-value : (text : Text) (d : Data) (P : Data → Type 0) → read text ≡ Some d → P d → OfText text P
+of-value text d P is h = λ e also. subst P (ap (of_some d) (sym is ∙ also)) h
+
+not-both : (o : Option Data) (d : Data) → o ≡ None → o ≡ Some d → ⊥
+not-both o d none is = cc
+
+-- a text without a value
+pub no-value : (text : Text) (e : error.Error) → IsNoJson text e → OfText text (λ d. OfWritten d (λ u. IsReadable u → e ≡ error.Memory))
+no-value text e (inl memory) = λ d is spans u w paths readable. memory
+no-value text e (inr h) = λ d is spans u w paths readable. absurd (not-both (read text) d h.1 is)
 
 -- a value that is written in the form that is chosen
 pub chosen : (u : UnitView) (spans : Bool) (d : Data) → spans ≡ shows_span (placed u) → d ≡ written_as spans u → d ≡ chosen_value u

@@ -10,7 +10,7 @@ use Rattle.wesl_tree_syntax.specs.Shown.{placed}
 use Rattle.wesl_tree_syntax.specs.Unit.{UnitOf, UnitView, spelled}
 use Rattle.wesl_json_form.specs.Schema.{Spelled, list_of, node, a_unit, a_declaration, a_directive, an_import}
 use Rattle.wesl_json_form.specs.Reading.{reading}
-use Rattle.wesl_json_form.specs.Units.{form_of, unit_tree, written_as, IsBrokenUnit, IsNoUnit}
+use Rattle.wesl_json_form.specs.Units.{form_of, unit_tree, written_as, IsBrokenUnit, IsNoUnit, IsUnitOf}
 use Rattle.wesl_json_form.specs.Writing.{written}
 use Rattle.wesl_json_light.specs.Numbers.{has_number}
 use Rattle.wesl_json_read.specs.Faults.{place_of}
@@ -27,6 +27,14 @@ IsSpelled d u = (n : ℕ) → depth d < n → option_map bare (reading (form_of 
 -- the value stands for no unit, and breaks the form of one at the place that is told
 abbrev pub IsTreeFault : Data → error.Error → Type 0
 IsTreeFault d e = (place : Text) × (place_of e ≡ Some place) × IsBrokenUnit d place × IsNoUnit d
+
+-- what holds of the value that a text is, where it is JSON
+abbrev pub OfText : Text → (Data → Type 0) → Type 0
+OfText text P = (d : Data) → read text ≡ Some d → P d
+
+-- the text is JSON, and this is the unit that its value stands for, with its spans and the numbers of its names
+abbrev pub IsUnitOfText : Text → UnitView → Type 0
+IsUnitOfText text u = (d : Data) × (read text ≡ Some d) × IsUnitOf d u
 
 -- the text is JSON, and its value stands for a unit that is spelled so
 abbrev pub ReadsAs : Text → UnitOf Text → Type 0

@@ -2,13 +2,13 @@
 use Rattle.std.proofs.Common.{◌⊎◌, ◌↔◌, Option, ℕ, Bool, List, Result, Ok, Err, IfOk, inl, inr, ⊎_elim}
 use Rattle.wesl_tree_names.specs.Path.{Text, Path}
 use Rattle.wesl_tree_names.specs.declared.errors.Error as error
-use Rattle.wesl_tree_names.specs.declared.errors.ImportError as import_error
+use Rattle.wesl_tree_names.specs.declared.errors.Diagnostic.{Diagnostic}
 use Rattle.wesl_tree_names.specs.declared.errors.ResolveError.{ResolveError}
 use Rattle.wesl_tree_names.specs.declared.errors.ResolveError as resolve_error
 use Rattle.wesl_cond_features.specs.declared.features.Features.{Features}
 use Rattle.wesl_tree.specs.declared.unit.TranslationUnit.{TranslationUnit}
 use Rattle.wesl_tree_names.specs.Errors.{IsRefusedFor, OrMemory}
-use Rattle.wesl_resolve.specs.Preprocessor.{IsMade, IsMadeFault}
+use Rattle.wesl_resolve.specs.Preprocessor.{IsMade, IsMadeFault, AnyName}
 use Rattle.wesl_cond.specs.Conditioned.{IsConditioned}
 use Rattle.wesl_tree_syntax.specs.Unit.{UnitOf}
 use Rattle.wesl_link_symbols.specs.Tables.{Table}
@@ -16,10 +16,11 @@ use Rattle.wesl_link_reach.specs.World.{Task}
 use Rattle.wesl_link_reach.specs.Faults.{Fault, duplicate, refused, missing, private, ambiguous, too_many_flags, too_many, Stands}
 use Rattle.wesl_link_engine.specs.Worlds.{Module, tables, task_of, IsWorld, IsLinked, IsRefused}
 use Rattle.wesl_link.specs.Linking.{Links, RefusesLink, kept_names, hands_left, refuses_left}
-use Rattle.wesl_link_engine.specs.Refusal.{TellsOfImport, TellsOf}
+use Rattle.wesl_link_engine.specs.Refusal.{TellsFault}
+use Rattle.wesl_link_engine.proofs.Refusing.{fault_over}
 
 stands-over : (refuses others : Path → ResolveError → Type 0) → ((p : Path) (e : ResolveError) → refuses p e → others p e) → (task : Task Path Text) (limit : ℕ) (ts : List (Table Path Text)) (fault : Fault Path Text ResolveError) → Stands refuses task limit ts fault → Stands others task limit ts fault
-stands-over refuses others to task limit ts (duplicate n) h = h
+stands-over refuses others to task limit ts (duplicate p n) h = h
 stands-over refuses others to task limit ts (refused e) h = (h.0, h.1, h.2, to h.0 e h.3)
 stands-over refuses others to task limit ts (missing p n) h = h
 stands-over refuses others to task limit ts (private n p) h = h
@@ -29,26 +30,6 @@ stands-over refuses others to task limit ts (too_many k) h = h
 
 world-over : (hands others : Path → UnitOf Text → Type 0) → ((p : Path) (u : UnitOf Text) → hands p u → others p u) → (root : Module) (w : List Module) → IsWorld hands root w → IsWorld others root w
 world-over hands others to root w h = record { root_in = h.root_in; handed = λ m c. ⊎_elim inl (λ x. inr (to m.path m.unit x)) (h.handed m c); one_unit = h.one_unit; no_relative = h.no_relative }
-
-tells-import : (P Q : Fault Path Text ResolveError → Type 0) → ((f : Fault Path Text ResolveError) → P f → Q f) → (e : import_error.ImportError) → TellsOfImport P e → TellsOfImport Q e
-tells-import P Q to (import_error.DuplicateSymbol n) h = to _ h
-tells-import P Q to (import_error.ResolveError e) (unwrapped, h) = (unwrapped, to _ h)
-tells-import P Q to (import_error.MissingDecl p n) h = to _ h
-tells-import P Q to (import_error.Private n p) h = to _ h
-tells-import P Q to (import_error.AmbiguousSymbol n) h = to _ h
-tells-import P Q to (import_error.TooManyFlags p) h = to _ h
-
-tells-over : (P Q : Fault Path Text ResolveError → Type 0) → ((f : Fault Path Text ResolveError) → P f → Q f) → (e : error.Error) → TellsOf P e → TellsOf Q e
-tells-over P Q to (error.Import e) h = tells-import P Q to e h
-tells-over P Q to (error.ModuleLimit k) h = to _ h
-tells-over P Q to error.Memory h = tt
-tells-over P Q to (error.CondComp e) h = absurd h
-tells-over P Q to (error.Resolve e) h = absurd h
-tells-over P Q to (error.Validate e) h = absurd h
-tells-over P Q to error.NotNormalType h = absurd h
-tells-over P Q to error.NotJson h = absurd h
-tells-over P Q to (error.BadTree place) h = absurd h
-tells-over P Q to (error.BadBundle place) h = absurd h
 
 -- relations that mean the same
 pub record AreAlike (hands hands2 : Path → UnitOf Text → Type 0) (refuses refuses2 : Path → ResolveError → Type 0) : Type 0 where
@@ -60,8 +41,8 @@ module _ (hands hands2 : Path → UnitOf Text → Type 0) (refuses refuses2 : Pa
   pub linked-over : (root : Module) (task : Task Path Text) (limit turns : ℕ) (w : List Module) → IsLinked hands refuses root task limit turns w → IsLinked hands2 refuses2 root task limit turns w
   linked-over root task limit turns w h = record { world = world-over hands hands2 alike.to root w h.world; once = h.once; paths = h.paths; no_fault = λ fault s. h.no_fault fault (stands-over refuses2 refuses alike.back task limit (tables w) fault s); turns = h.turns }
 
-  pub refused-over : (root : Module) (task : Task Path Text) (limit : ℕ) (e : error.Error) → TellsOf (IsRefused hands refuses root task limit) e → TellsOf (IsRefused hands2 refuses2 root task limit) e
-  refused-over root task limit = tells-over (IsRefused hands refuses root task limit) (IsRefused hands2 refuses2 root task limit)
+  pub refused-over : (root : Module) (task : Task Path Text) (limit : ℕ) (d : Diagnostic) → TellsFault (IsRefused hands refuses root task limit) d → TellsFault (IsRefused hands2 refuses2 root task limit) d
+  refused-over root task limit = fault_over (IsRefused hands refuses root task limit) (IsRefused hands2 refuses2 root task limit)
       (λ f h. (h.0, world-over hands hands2 alike.to root h.0 h.1, stands-over refuses refuses2 alike.on task limit (tables h.0) f h.2))
 
   or-memory-over : (p : Path) (e : ResolveError) → OrMemory (refuses p) e → OrMemory (refuses2 p) e
@@ -71,9 +52,9 @@ module _ (hands hands2 : Path → UnitOf Text → Type 0) (refuses refuses2 : Pa
   pub links-over : (p : Path) (keep : List Text) (is_eager : Bool) (limit turns : ℕ) (w : List Module) → Links hands refuses p keep is_eager limit turns w → Links hands2 refuses2 p keep is_eager limit turns w
   links-over p keep is_eager limit turns w (root, at_root, linked, order) = (root, (at_root.0, alike.to p root.unit at_root.1), linked-over root (task_of root (kept_names is_eager keep) is_eager) limit turns w linked, order)
 
-  pub refuses-over : (p : Path) (keep : List Text) (is_eager : Bool) (limit : ℕ) (e : error.Error) → RefusesLink hands refuses p keep is_eager limit e → RefusesLink hands2 refuses2 p keep is_eager limit e
-  refuses-over p keep is_eager limit e (inl h) = inl (h.0, or-memory-over p h.0 h.1, h.2)
-  refuses-over p keep is_eager limit e (inr h) = inr (h.0, (h.1.0, alike.to p h.0.unit h.1.1), refused-over h.0 (task_of h.0 (kept_names is_eager keep) is_eager) limit e h.2)
+  pub refuses-over : (p : Path) (keep : List Text) (is_eager : Bool) (limit : ℕ) (d : Diagnostic) → RefusesLink hands refuses p keep is_eager limit d → RefusesLink hands2 refuses2 p keep is_eager limit d
+  refuses-over p keep is_eager limit d (inl h) = inl (h.0, or-memory-over p h.0 h.1, h.2)
+  refuses-over p keep is_eager limit d (inr h) = inr (h.0, (h.1.0, alike.to p h.0.unit h.1.1), refused-over h.0 (task_of h.0 (kept_names is_eager keep) is_eager) limit d h.2)
 
 pub both-ok : {T E : Type 0} (r : Result T E) (P Q R : T → Type 0) → ((x : T) → P x → Q x → R x) → IfOk r P → IfOk r Q → IfOk r R
 both-ok (Ok x) P Q R f h k = f x h k
@@ -91,13 +72,13 @@ module _ (hands hands2 : Path → UnitOf Text → Type 0) (refuses refuses2 : Pa
   faulty P Q f (resolve_error.FileNotFound file text) h = absurd h
   faulty P Q f resolve_error.Memory h = absurd h
 
-  fault-to : (p : Path) (e : ResolveError) → refuses p e ⊎ IsMadeFault (hands p) answers e → refuses_left hands2 refuses2 features p e
+  fault-to : (p : Path) (e : ResolveError) → refuses p e ⊎ IsMadeFault (hands p) answers p AnyName e → refuses_left hands2 refuses2 features p e
   fault-to p e (inl h) = inl ((faults p e).0 h)
-  fault-to p e (inr h) = inr (h.0, (units p _).0 h.1, faulty _ _ (λ fault k. (same h.0 (Err fault)).0 k) e h.2)
+  fault-to p e (inr h) = inr (h.0, (units p _).0 h.1, (h.2.0, tt, (faulty _ _ (λ fault k. (same h.0 (Err fault)).0 k) e h.2.2.0, h.2.2.1)))
 
-  fault-back : (p : Path) (e : ResolveError) → refuses_left hands2 refuses2 features p e → refuses p e ⊎ IsMadeFault (hands p) answers e
+  fault-back : (p : Path) (e : ResolveError) → refuses_left hands2 refuses2 features p e → refuses p e ⊎ IsMadeFault (hands p) answers p AnyName e
   fault-back p e (inl h) = inl ((faults p e).1 h)
-  fault-back p e (inr h) = inr (h.0, (units p _).1 h.1, faulty _ _ (λ fault k. (same h.0 (Err fault)).1 k) e h.2)
+  fault-back p e (inr h) = inr (h.0, (units p _).1 h.1, (h.2.0, tt, (faulty _ _ (λ fault k. (same h.0 (Err fault)).1 k) e h.2.2.0, h.2.2.1)))
 
-  pub left-alike : AreAlike (λ p u. IsMade (hands p) answers u) (hands_left hands2 refuses2 features) (λ p e. refuses p e ⊎ IsMadeFault (hands p) answers e) (refuses_left hands2 refuses2 features)
+  pub left-alike : AreAlike (λ p u. IsMade (hands p) answers u) (hands_left hands2 refuses2 features) (λ p e. refuses p e ⊎ IsMadeFault (hands p) answers p AnyName e) (refuses_left hands2 refuses2 features)
   left-alike = record { to = made; on = fault-to; back = fault-back }

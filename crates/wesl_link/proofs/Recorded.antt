@@ -1,19 +1,23 @@
 -- A link that was made and mangled, and its record.
-use Rattle.std.proofs.Common.{◌≡◌, ℕ, Bool, true, Some, List, ◌∷◌, refl, sym, subst, ap, ◌∙◌, inl}
+use Rattle.std.proofs.Common.{◌≡◌, ℕ, Bool, true, Option, Some, List, ◌∷◌, refl, sym, subst, ap, ◌∙◌, inl}
 use Rattle.wesl_tree_names.specs.Path.{Text, Path}
+use Rattle.wesl_tree_names.specs.Errors.{IsBare}
+use Rattle.wesl_tree_names.specs.declared.errors.Diagnostic.{Diagnostic}
 use Rattle.wesl_tree_names.specs.declared.errors.Error as error
 use Rattle.wesl_tree_names.specs.declared.errors.ResolveError.{ResolveError}
 use Rattle.wesl_tree_names.specs.declared.errors.ResolveError as resolve_error
 use Rattle.wesl_tree.specs.Translation.{unit_view}
 use Rattle.wesl_tree_syntax.specs.Unit.{UnitOf, UnitView}
-use Rattle.wesl_link_engine.specs.Recorded.{Record, IsRecordedBy}
+use Rattle.wesl_link_engine.specs.Recorded.{Record, Write, IsRecordedBy, all_written}
 use Rattle.wesl_link.specs.Linking.{Links, RefusesLink, kept_names, task_at}
 use Rattle.wesl_link_engine.specs.Worlds.{Module}
 use Rattle.wesl_link_engine.specs.Linked.{IsAssembled}
 use Rattle.wesl_link_engine.specs.Resolved.{Resolved, IsMangled, AssemblesTo, IsAssembledOf, NamesAgree, first_path, mangled, writes}
-use Rattle.wesl_source_map_entries.specs.Records.{SameSources}
+use Rattle.wesl_source_map_entries.specs.Records.{SameItems, Sources, SameSources}
 use Rattle.wesl_source_map_entries.specs.Held.{source_or}
 use Rattle.wesl_source_map.specs.BasicView.{items, sources, default_text}
+use Rattle.wesl_source_map.specs.Recording.{GainsSources}
+use Rattle.wesl_source_map.proofs.Starting.{gains_none}
 use Rattle.wesl_source_map.specs.declared.basic.BasicSourceMap.{BasicSourceMap}
 use Rattle.wesl_link.specs.Keeping.{resolved}
 use Rattle.wesl_link.specs.Mapping.{MapsLink, ShowsRoot, IsLinkFound, AssemblesFound, RecordsFound}
@@ -77,9 +81,18 @@ maps_found named hands refuses name_of root keep is_eager limit before found man
     (maps_link hands refuses root keep is_eager limit (resolved found.resolutions) is.links is.kept is.eager used mangle_root q mangled u assembled started (items made.map) recorded)
 
 -- want of memory is always told
-pub memory_refuses : (hands : Path → UnitOf Text → Type 0) (refuses : Path → ResolveError → Type 0) (at : Path) (keep : List Text) (is_eager : Bool) (limit : ℕ) (e : error.Error) → e ≡ error.Memory → RefusesLink hands refuses at keep is_eager limit e
-memory_refuses hands refuses at keep is_eager limit e is = inl (resolve_error.Memory, inl refl, is)
+pub memory_refuses : (hands : Path → UnitOf Text → Type 0) (refuses : Path → ResolveError → Type 0) (at : Path) (keep : List Text) (is_eager : Bool) (limit : ℕ) (d : Diagnostic) → IsBare error.Memory d → RefusesLink hands refuses at keep is_eager limit d
+memory_refuses hands refuses at keep is_eager limit d bare = inl (resolve_error.Memory, inl refl, bare)
 
 -- a mapper that is done with shows the root's source
-pub shows_root : (before after : BasicSourceMap) (root : Path) → SameSources (sources before) (sources after) → default_text after ≡ source_or (sources before root) (default_text before) → ShowsRoot root after
-shows_root before after root same default source is = default ∙ ap (λ s. source_or s (default_text before)) (sym (same root) ∙ is)
+pub shows_root : (before : Sources) (text : Option Text) (after : BasicSourceMap) (root : Path) → SameSources before (sources after) → default_text after ≡ source_or (before root) text → ShowsRoot root text after
+shows_root before text after root same default = default ∙ ap (λ s. source_or s text) (sym (same root))
+
+-- what was written into a record that is the one before, into one that says the same afterwards
+pub recorded_in : (xs : List Write) (before start end last after : Record) → start ≡ before → IsRecordedBy true xs start end → last ≡ end → SameItems last after → IsRecordedBy true xs before after
+recorded_in xs before start end last after begins written ends same x =
+    same x ∙ (ap (λ (r : Record). r x) ends ∙ (written x ∙ ap (λ (r : Record). all_written true xs r x) begins))
+
+-- sources that are gained stay so in a map that knows the same
+pub gains_in : (before : Sources) (gives : Path → Text → Type 0) (shows : Path → Option Text → Type 0) (now later : Sources) → SameSources now later → GainsSources before gives shows now → GainsSources before gives shows later
+gains_in before gives shows now later same gained = gains_none before gives shows now later gained same

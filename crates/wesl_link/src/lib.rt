@@ -4,6 +4,7 @@
 #![tactic(auto)]
 
 mod conditional;
+pub mod laws;
 mod mapped;
 mod resolutions;
 mod resolve;
@@ -13,5 +14,5 @@ pub use mapped::{FoundLink, Mapped, find_mapped, link_mapped};
 pub use resolutions::Resolutions;
 pub use resolve::{resolve_eager, resolve_lazy};
 pub use wesl_cond::condition;
-pub use wesl_link_engine::{LinkRequest, Step, law_of_eager_links, law_of_links};
+pub use wesl_link_engine::{LinkRequest, Step};
 pub use wesl_resolve_base::Resolver;

@@ -1,16 +1,19 @@
 //! A link through a mapper, and what it records.
-ghost use Rattle.std.specs.Prelude.{◌≡◌, ◌↔◌, Result, false, true, IfOk, IfErr};
+ghost use Rattle.std.specs.Prelude.{◌≡◌, ◌↔◌, Result, false, IfOk, IfErr, option_copied};
+ghost use Rattle.wesl_tree_names.specs.Errors.{IsBare};
 ghost use Rattle.wesl_tree_names.specs.declared.errors.Error as error;
-ghost use Rattle.wesl_tree_names.specs.declared.errors.Diagnostic.{out-Diagnostic};
 ghost use Rattle.wesl_tree_names.specs.Path.{Text, Path, path_view, is_relative};
 ghost use Rattle.wesl_tree.specs.declared.unit.TranslationUnit.{TranslationUnit};
 ghost use Rattle.wesl_cond.specs.Conditioned.{IsConditioned};
 ghost use Rattle.wesl_link_engine.specs.Asking.{request_view, kept_of};
-ghost use Rattle.wesl_link.specs.Asking.{FindsLink, TellsRefusal};
+ghost use Rattle.wesl_link.specs.Asking.{FindsLink, TellsRefusal, TellsRefusalOfLeft};
 ghost use Rattle.wesl_link.specs.Keeping.{resolved};
-ghost use Rattle.wesl_source_map_entries.specs.Records.{SameItems};
-ghost use Rattle.wesl_source_map.specs.BasicView.{items};
-ghost use Rattle.wesl_link.specs.Mapping.{FindsLeft, MapsLeft, RefusesToMap, ShowsRoot, AssemblesFound, RecordsFound, root_of};
+ghost use Rattle.wesl_source_map_entries.specs.Records.{SameItems, SameSources};
+ghost use Rattle.wesl_source_map.specs.BasicView.{items, sources, default_text};
+ghost use Rattle.wesl_source_map.specs.Recording.{GainsSources};
+ghost use Rattle.wesl_source_map.specs.Starting.{KeepsStart};
+ghost use Rattle.wesl_link.specs.Mapping.{FindsLeft, MapsLeft, GainsSourcesOf, ShowsRoot};
+ghost use Rattle.wesl_link.specs.Mapping.{AssemblesFound, RecordsFound, root_of, sources_of, default_of};
 
 use crate::conditional::link_at;
 use crate::resolutions::Resolutions;
@@ -45,58 +48,74 @@ impl<M: Mangler + Drop> FoundLink<M> {
     /// Gives the unit of what was found the names of the mapper's mangler (WESL, "NameMangling").
     ///
     /// The record has, beside what the mapper had, a name for each declared name of each module of the link, in module order;
-    /// those of the root only with `mangle_root`. Where it has a source of the root, that is the default source. Refused for
-    /// want of memory alone.
+    /// those of the root only with `mangle_root`. Its sources are those of the mapper. Where it has one of the mapper's root,
+    /// that is the default source. Refused for want of memory alone, and the diagnostic tells that.
     pub fn finish(self, alloc: Global, mangle_root: bool) -> Result<Mapped, Diagnostic>
         ensures named { IfOk result (AssemblesFound M.name_of mangle_root self) }
         ensures recorded { IfOk result (RecordsFound M.name_of mangle_root self) }
-        ensures default { IfOk result (λ made. ShowsRoot (root_of self) made.map) }
-        ensures refused { IfErr result (λ d. (out-Diagnostic d).error ≡ error.Memory) }
+        ensures sources { IfOk result (λ made. SameSources (sources_of self) (sources made.map)) }
+        ensures default { IfOk result (λ made. ShowsRoot (root_of self) (default_of self) made.map) }
+        ensures refused { IfErr result (IsBare error.Memory) }
     {
         let FoundLink {
             root,
             mut resolutions,
-            mut mapper,
+            mapper,
         } = self;
-        resolutions.mangle(alloc, &mut mapper, mangle_root)?;
+        let SourceMapper {
+            root: asked_root,
+            resolver,
+            mangler,
+            mut sourcemap,
+        } = mapper;
+        // The sources are held apart meanwhile: what is generic in the mapper says nothing of those that it has.
+        let mut naming = SourceMapper {
+            root: asked_root,
+            resolver,
+            mangler,
+            sourcemap: sourcemap.take_decls(alloc),
+        };
+        resolutions.mangle(alloc, &mut naming, mangle_root)?;
         let unit = resolutions.into_unit(alloc, true)?;
+        naming.sourcemap = naming.sourcemap.with_sources_of(sourcemap);
         // Told again, since what is generic in the mapper says nothing of the path that it has.
-        mapper.root = root;
-        match mapper.finish(alloc) {
+        naming.root = root;
+        match naming.finish(alloc) {
             Ok(map) => Ok(Mapped { unit, map }),
             Err(_) => Err(Diagnostic::of(Error::Memory)),
         }
     }
 }
 
-/// Links the module at the mapper's root as `link_under` does, and gives its unit the names of the mapper's mangler (WESL,
+/// Links the module at the request's root as `link_under` does, and gives its unit the names of the mapper's mangler (WESL,
 /// "NameMangling").
 ///
 /// The mapper is the resolver of the link, the root's too, and then its mangler. So its record has, beside what it had, a name
-/// for each declared name of each module of the link, in module order; those of the root only with `mangle_root`. Where it has
-/// a source of the root, that is the default source. Which sources it has is not said here: the mapper records that of each
-/// module that it is asked for, where the resolver gives one.
+/// for each declared name of each module of the link, in module order; those of the root only with `mangle_root`. No source
+/// that it had is lost, and each that it has it had before, or it is the resolver's for that path, shown as the resolver shows
+/// it: the mapper records that of each module that it is asked for, where the resolver gives one. Where there is one of the
+/// mapper's root, that is the default source.
 ///
 /// Refused as `link_under` is: where the resolver refuses a path, where a fault of a condition stands in a unit, where a link
-/// is refused, and for want of memory. The diagnostic tells the place of the fault as far as it is known.
+/// is refused, and for want of memory. The diagnostic tells the module that has two targets of a name, or that lacks a name or
+/// hides it.
 ///
 /// It is `find_mapped`, and `FoundLink::finish` of what that finds.
 pub fn link_mapped<R: Resolver + Drop, M: Mangler + Drop>(
     alloc: Global,
-    keep: &[&str],
-    is_eager: bool,
+    request: &LinkRequest<'_>,
     mapper: SourceMapper<R, M>,
+    features: Option<&Features>,
     mangle_root: bool,
-    features: &Option<Features>,
-    max_modules: usize,
 ) -> Result<Mapped, Diagnostic>
     requires ready { R.ready mapper.resolver }
-    requires asked { is_relative (path_view mapper.root) ≡ false }
-    ensures mapped { IfOk result (MapsLeft R.Resolver M.Mangler features.now mapper keep.now is_eager mangle_root max_modules) }
-    ensures default { IfOk result (λ made. ShowsRoot (path_view mapper.root) made.map) }
-    ensures refused { IfErr result (RefusesToMap R.Resolver features.now mapper keep.now is_eager max_modules) }
+    requires asked { is_relative (path_view request.now.root.now) ≡ false }
+    ensures mapped { IfOk result (MapsLeft R.Resolver M.Mangler (option_copied features.entry) mapper (request_view request.now) mangle_root) }
+    ensures sources { IfOk result (λ made. GainsSourcesOf R.Resolver mapper made.map) }
+    ensures default { IfOk result (λ made. ShowsRoot (path_view mapper.root) (default_text mapper.sourcemap) made.map) }
+    ensures refused { IfErr result (TellsRefusalOfLeft R.Resolver mapper.resolver (option_copied features.entry) (request_view request.now)) }
 {
-    match find_mapped(alloc, keep, is_eager, mapper, features, max_modules) {
+    match find_mapped(alloc, request, mapper, features) {
         Ok(found) => found.finish(alloc, mangle_root),
         Err(diagnostic) => Err(diagnostic),
     }
@@ -108,21 +127,22 @@ pub fn link_mapped<R: Resolver + Drop, M: Mangler + Drop>(
 /// Refused as `link_mapped` is.
 pub fn find_mapped<R: Resolver + Drop, M: Mangler + Drop>(
     alloc: Global,
-    keep: &[&str],
-    is_eager: bool,
+    request: &LinkRequest<'_>,
     mapper: SourceMapper<R, M>,
-    features: &Option<Features>,
-    max_modules: usize,
+    features: Option<&Features>,
 ) -> Result<FoundLink<M>, Diagnostic>
     requires ready { R.ready mapper.resolver }
-    requires asked { is_relative (path_view mapper.root) ≡ false }
-    ensures found { IfOk result (FindsLeft R.Resolver M.Mangler features.now mapper keep.now is_eager max_modules) }
-    ensures refused { IfErr result (RefusesToMap R.Resolver features.now mapper keep.now is_eager max_modules) }
+    requires asked { is_relative (path_view request.now.root.now) ≡ false }
+    ensures found { IfOk result (FindsLeft R.Resolver M.Mangler (option_copied features.entry) mapper (request_view request.now)) }
+    ensures sources { IfOk result (λ found. GainsSourcesOf R.Resolver mapper found.mapper.sourcemap) }
+    ensures default { IfOk result (λ found. default_of found ≡ default_text mapper.sourcemap) }
+    ensures root { IfOk result (λ found. root_of found ≡ path_view mapper.root) }
+    ensures refused { IfErr result (TellsRefusalOfLeft R.Resolver mapper.resolver (option_copied features.entry) (request_view request.now)) }
 {
     let judge = |unit: TranslationUnit|
-        ensures { IsConditioned features.entry.now unit result }
+        ensures { IsConditioned (option_copied features.entry) unit result }
     { condition(alloc, unit, features) };
-    find_judged(alloc, keep, is_eager, mapper, judge, features, max_modules)
+    find_judged(alloc, request, mapper, judge, features)
 }
 
 // Finds what a link holds of what a function leaves of the units that are handed out, the root's too.
@@ -132,47 +152,42 @@ fn find_judged<
     F: Fn(TranslationUnit) -> Result<TranslationUnit, Error> + Drop,
 >(
     alloc: Global,
-    keep: &[&str],
-    is_eager: bool,
+    request: &LinkRequest<'_>,
     mapper: SourceMapper<R, M>,
     judge: F,
-    features: &Option<Features>,
-    max_modules: usize,
+    features: Option<&Features>,
 ) -> Result<FoundLink<M>, Diagnostic>
     requires ready { R.ready mapper.resolver }
-    requires asked { is_relative (path_view mapper.root) ≡ false }
+    requires asked { is_relative (path_view request.now.root.now) ≡ false }
     requires callable { F.IsAlwaysCallable judge }
-    requires judges { (given : TranslationUnit) (answer : Result TranslationUnit error.Error) → F.post judge given answer ↔ IsConditioned features.now given answer }
-    ensures found { IfOk result (FindsLeft R.Resolver M.Mangler features.now mapper keep.now is_eager max_modules) }
-    ensures refused { IfErr result (RefusesToMap R.Resolver features.now mapper keep.now is_eager max_modules) }
+    requires judges { (given : TranslationUnit) (answer : Result TranslationUnit error.Error) → F.post judge given answer ↔ IsConditioned (option_copied features) given answer }
+    ensures found { IfOk result (FindsLeft R.Resolver M.Mangler (option_copied features.entry) mapper (request_view request.now)) }
+    ensures sources { IfOk result (λ found. GainsSourcesOf R.Resolver mapper found.mapper.sourcemap) }
+    ensures default { IfOk result (λ found. default_of found ≡ default_text mapper.sourcemap) }
+    ensures root { IfOk result (λ found. root_of found ≡ path_view mapper.root) }
+    ensures refused { IfErr result (TellsRefusalOfLeft R.Resolver mapper.resolver (option_copied features.entry) (request_view request.now)) }
 {
-    let path = mapper.root.try_clone(alloc)?;
     let SourceMapper {
         root,
         resolver,
         mangler,
         sourcemap,
     } = mapper;
+    let at = root.try_clone(alloc)?;
     let judged = SourceMapper {
-        root,
+        root: at,
         resolver: Preprocessor::new(resolver, judge),
         mangler,
         sourcemap,
     };
-    let request = LinkRequest {
-        root: &path,
-        keep,
-        is_eager,
-        max_modules,
-    };
-    match found::<Preprocessor<R, F>, M, Brand>(alloc, &request, judged) {
+    match found::<Preprocessor<R, F>, M, Brand>(alloc, request, judged) {
         Ok(found) => {
             let MapperLink {
                 resolutions,
                 mapper,
             } = found;
             Ok(FoundLink {
-                root: path,
+                root,
                 resolutions,
                 mapper,
             })
@@ -187,7 +202,8 @@ struct MapperLink<M> {
     mapper: SourceMapper<NoResolver, M>,
 }
 
-// Links by the mapper as a resolver alone: the names that it has recorded stay, and those that its mangler gives.
+// Links by the mapper as a resolver alone: the names that it has recorded stay, those that its mangler gives, and the default
+// source, and it gains sources of its resolver.
 fn found<R: Resolver + Drop, M: Mangler + Drop, S: Start>(
     alloc: Global,
     request: &LinkRequest<'_>,
@@ -195,13 +211,14 @@ fn found<R: Resolver + Drop, M: Mangler + Drop, S: Start>(
 ) -> Result<MapperLink<M>, Diagnostic>
     requires ready { R.ready mapper.resolver }
     requires asked { is_relative (path_view request.now.root.now) ≡ false }
-    requires start { SameItems S.items (items mapper.sourcemap) }
-    requires names { (p : Path) (i : Text) → M.name_of mapper.mangler p i ≡ S.name_of p i }
+    requires start { KeepsStart S.Start R.Resolver M.Mangler mapper }
     ensures linked { IfOk result (λ f. FindsLink R.Resolver mapper.resolver (request_view request.now) f.resolutions) }
     ensures kept { IfOk result (λ f. (resolved f.resolutions).kept ≡ kept_of (request_view request.now)) }
     ensures eager { IfOk result (λ f. (resolved f.resolutions).is_eager ≡ request.now.is_eager) }
-    ensures start { IfOk result (λ f. SameItems S.items (items f.mapper.sourcemap)) }
+    ensures decls { IfOk result (λ f. SameItems S.items (items f.mapper.sourcemap)) }
     ensures names { IfOk result (λ f. (p : Path) (i : Text) → M.name_of f.mapper.mangler p i ≡ S.name_of p i) }
+    ensures sources { IfOk result (λ f. GainsSources S.sources S.gives S.shows (sources f.mapper.sourcemap)) }
+    ensures default { IfOk result (λ f. default_text f.mapper.sourcemap ≡ S.default) }
     ensures refused { IfErr result (TellsRefusal R.Resolver mapper.resolver (request_view request.now)) }
 {
     let mut asked = Asked::<R, M, S> {

@@ -6,7 +6,7 @@ ghost use Rattle.wesl_tree.specs.Translation.{unit_view};
 ghost use Rattle.wesl_link_engine.specs.Given.{SameVariants};
 ghost use Rattle.wesl_link_engine.specs.Resolved.{paths_of, paths_told, first_path, IsNothing, IsMangled, AssemblesTo, RecordsWrites};
 ghost use Rattle.wesl_link_engine.specs.Keeping as linker;
-ghost use Rattle.wesl_link_engine.specs.Reasons.{IsHeldIn, TellsReason, item_at, module_node};
+ghost use Rattle.wesl_link_engine.specs.Reasons.{IsHeldIn, TellsOnce, TellsReason, item_at, module_node};
 
 use std::alloc::Global;
 use wesl_link_engine::Step;
@@ -116,7 +116,8 @@ impl Resolutions {
 
     /// Why the declarations of a name in the module at a path are held (WESL, "Imports"): the steps to their symbol. The first
     /// is a kept name or the root's module, the last the symbol, and each next one is asked for by the one before: by a kept
-    /// name, by a declaration, by a const_assert of a module, or in an eager link by a module that takes it with it.
+    /// name, by a declaration, by a const_assert of a module, or in an eager link by a module that takes it with it. No step
+    /// stands there twice.
     ///
     /// None where the symbol is not held. Refused for want of memory alone. A call goes once through what the link reached.
     ///
@@ -136,6 +137,7 @@ impl Resolutions {
         name: &str,
     ) -> Result<Option<Vec<Step<'_>>>, Error>
         ensures told { IfOk result (TellsReason (resolved self.now) (item_at path.now name.now)) }
+        ensures once { IfOk result TellsOnce }
         ensures none { IfOk result (λ o. (o ≡ None) ↔ (IsHeldIn (resolved self.now) (item_at path.now name.now) → ⊥)) }
         ensures refused { IfErr result (λ e. e ≡ error.Memory) }
     {
@@ -151,6 +153,7 @@ impl Resolutions {
         path: &ModulePath,
     ) -> Result<Option<Vec<Step<'_>>>, Error>
         ensures told { IfOk result (TellsReason (resolved self.now) (module_node path.now)) }
+        ensures once { IfOk result TellsOnce }
         ensures none { IfOk result (λ o. (o ≡ None) ↔ (IsHeldIn (resolved self.now) (module_node path.now) → ⊥)) }
         ensures refused { IfErr result (λ e. e ≡ error.Memory) }
     {

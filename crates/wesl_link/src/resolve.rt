@@ -22,7 +22,7 @@ use wesl_tree_names::{Diagnostic, ModulePath};
 /// for two things where it is used or where a look-up comes to it, where a module with such a name has more than 16 flags,
 /// where the resolver refuses a path, where a look-up finds nothing or nothing that it may see, where there are more modules
 /// than may be, and for want of memory. The diagnostic tells the module that has the two targets, or that lacks the name or
-/// hides it.
+/// hides it, and no place in it; what a resolver's refusal tells is in its error.
 pub fn resolve_lazy<R: Resolver>(
     alloc: Global,
     keep: &[&str],
@@ -88,6 +88,6 @@ pub fn resolve_eager<R: Resolver>(
     };
     match link_root(alloc, &eager, unit, resolver) {
         Ok(whole) => Ok(Resolutions { found: whole }),
-        Err(diagnostic) => Err(diagnostic),
+        Err(refusal) => Err(refusal),
     }
 }

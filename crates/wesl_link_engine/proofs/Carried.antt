@@ -118,7 +118,7 @@ module _ {P N Q M : Type 0} (R : P → Q → Type 0) (S : N → M → Type 0) wh
     pub covered : (t : Table P N) → Contains w t → (u : Table Q M) × Contains v u × SameTable R S t u
 
   abbrev pub SameFault : {E : Type 0} → Fault P N E → Fault Q M E → Type 0
-  SameFault (duplicate n) (duplicate m) = S n m
+  SameFault (duplicate p n) (duplicate q m) = R p q × S n m
   SameFault (refused e) (refused f) = e ≡ f
   SameFault (missing p n) (missing q m) = R p q × S n m
   SameFault (private n p) (private m q) = S n m × R p q
@@ -470,9 +470,10 @@ module _ {P N Q M : Type 0} (R : P → Q → Type 0) (S : N → M → Type 0) (r
           none t (d, rs.other t.path p q (subst (λ (z : Q). R t.path z) e same_u.path) rp)
 
       pub stands_to : (f : Fault P N E) → Stands refuses a limit w f → (g : Fault Q M E) × SameFault R S f g × Stands refuses2 b limit v g
-      stands_to (duplicate n) (t, held, h, clash) =
-          let (u, c, same_t) = covers.covered t held in
-          let (m, sn, there) = clashes_to n t u same_t clash in (duplicate m, sn, (u, c, entered_at t u same_t h, there))
+      stands_to (duplicate p n) (t, at, h, clash) =
+          let (q, rq, g) = entered_to p h in
+          let (u, at2, same_t) = at_to p q t rq at in
+          let (m, sn, there) = clashes_to n t u same_t clash in (duplicate q m, (rq, sn), (u, at2, g, there))
       stands_to (refused e) (p, h, none, why) =
           let (q, rq, g) = entered_to p h in (refused e, refl, (q, g, absent_to p q rq none, refused_to p q e rq why))
       stands_to (missing p n) (l, f, why) =

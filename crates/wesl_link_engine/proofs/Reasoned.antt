@@ -6,10 +6,10 @@ use Rattle.wesl_tree_names.specs.Path.{Text, Path, path_view}
 use Rattle.wesl_link_symbols.specs.declared.ids.PathId.{PathId}
 use Rattle.wesl_tree_base.specs.declared.ids.NameId.{NameId}
 use Rattle.wesl_link_symbols.specs.Tables.{Table}
-use Rattle.wesl_link_symbols.proofs.Lists.{contains_nil, contains_cases}
+use Rattle.wesl_link_symbols.proofs.Lists.{contains_nil, contains_first, contains_later, contains_cases}
 use Rattle.wesl_link_reach.specs.World.{Task}
 use Rattle.wesl_link_reach.specs.Faults.{AreDistinct}
-use Rattle.wesl_link_reach.specs.Faults.AreDistinct.{one_more as one_distinct}
+use Rattle.wesl_link_reach.specs.Faults.AreDistinct.{none as none_distinct, one_more as one_distinct}
 use Rattle.wesl_link_reach.specs.Linking.{paths}
 use Rattle.wesl_link_reach.proofs.Lists.{contains_map, map_contains}
 use Rattle.wesl_link_reasons.specs.declared.node.Node.{Node}
@@ -112,6 +112,17 @@ module _ (nb : Numbering) where
     other_node (Item s) (KeptName m) (Item y) h k = absurd k
     other_node (Item s) (Module q) (Item y) h k = absurd k
 
+    told_apart : (x : Node PathId NameId) (xs : List (Node PathId NameId)) → HaveTexts nb (x ∷ xs) → (Contains xs x → ⊥) → Contains (map (told_node nb) xs) (told_node nb x) → ⊥
+    told_apart x xs named fresh c =
+        let (z, held, e) = contains_map (told_node nb) xs (told_node nb x) c in
+        let there : SameNode (PathAt nb) (NameAt nb) z (told_node nb x) =
+        subst (λ (y : Node Path Text). SameNode (PathAt nb) (NameAt nb) z y) e (same_text z (named z (contains_later x z xs held))) in
+        fresh (subst (λ (g : Node PathId NameId). Contains xs g) (other_node z x (told_node nb x) there (same_text x (named x (contains_first x xs)))) held)
+
+    pub told_once : (xs : List (Node PathId NameId)) → HaveTexts nb xs → AreDistinct xs → AreDistinct (map (told_node nb) xs)
+    told_once [] named d = none_distinct
+    told_once (x ∷ xs) named (one_distinct _ _ fresh d) = one_distinct (told_node nb x) (map (told_node nb) xs) (told_apart x xs named fresh) (told_once xs (λ z c. named z (contains_later x z xs c)) d)
+
 module _ (l : Link) (sound : IsLinkOf (task_in l) l) (root : PathId) (root_at : PathAt (numbering l.numbers) root (path_view l.root.path)) where
   abbrev nb : Numbering
   nb = numbering l.numbers
@@ -156,6 +167,9 @@ module _ (l : Link) (sound : IsLinkOf (task_in l) l) (root : PathId) (root_at : 
   chain_told x xs h =
       let (y, ys, same_y, all, there) = reason_to (PathAt nb) (NameAt nb) rs ss l.linked.tables (tables (modules_in l)) covers a (task_in l) same_task x xs h in
       subst (λ (z : Node Path Text). IsReasonOf l z (map (told_node nb) xs)) (sym (text_of nb x y same_y)) (subst (λ (zs : List (Node Path Text)). IsReasonOf l y zs) (sym (texts_of nb xs ys all)) there)
+
+  pub chain_once : (x : Node PathId NameId) (xs : List (Node PathId NameId)) → IsReason l.linked.tables a x xs → AreDistinct xs → AreDistinct (map (told_node nb) xs)
+  chain_once x xs h d = told_once nb rs ss xs (chain_named x xs h) d
 
   -- what is held in texts is so in numbers
   held_back : (y : Node Path Text) → HoldsIn l y → (x : Node PathId NameId) × SameNode (PathAt nb) (NameAt nb) x y × IsHeld l.linked.tables a x

@@ -213,12 +213,14 @@ module _ (nb : Numbering) (different : AreDifferent nb.names) (name_of : Path �
 
   pub more_named : (n : NameId) (x : Text) (p : PathId) → p ≡ path → Some n ≡ d.name → NameAt nb n x → ((k : Declaration PathId NameId) (m : NameId) → Contains (take i ds) k → k.name ≡ Some m → (y : Text) × NameAt nb m y)
       → (now : Given) (f : Text → Text) → Names nb f path (take i ds) old now → (before after : Record) (name : Text) → name ≡ name_of own x
-      → ((y : Text) → after y ≡ written_unless (now (record { path = p; name = n })) w name (own, x) before y)
+      → (v : Bool) → v ≡ w → ((y : Text) → after y ≡ written_unless (now (record { path = p; name = n })) v name (own, x) before y)
       → Recorded nb different name_of own path w first old none (take i ds) before → Recorded nb different name_of own path w first old none (take (i + 1) ds) after
-  more_named n x p there named at texts now f h before after name called wrote r =
+  more_named n x p there named at texts now f h before after name called v agrees wrote r =
+      let written : (y : Text) → after y ≡ written_unless (now (record { path = p; name = n })) w name (own, x) before y =
+      subst (λ (b : Bool). (y : Text) → after y ≡ written_unless (now (record { path = p; name = n })) b name (own, x) before y) agrees wrote in
       subst (λ (es : List (Declaration PathId NameId)). Recorded nb different name_of own path w first old none es after) (sym next)
       (recorded_named nb different name_of own path w first old none (take i ds) d n x (sym named) at texts now f h before after r
-      (λ y. wrote y ∙ (ap (λ (q : PathId). written_unless (now (record { path = q; name = n })) w name (own, x) before y) there ∙ ap (λ (z : Text). written_unless (now (record { path = path; name = n })) w z (own, x) before y) called)))
+      (λ y. written y ∙ (ap (λ (q : PathId). written_unless (now (record { path = q; name = n })) w name (own, x) before y) there ∙ ap (λ (z : Text). written_unless (now (record { path = path; name = n })) w z (own, x) before y) called)))
 
 -- ---- one name
 

@@ -35,6 +35,10 @@ pub record StaysOne {R : Type 0} (hands : R → Path → UnitOf Text → Type 0)
 abbrev pub StaysLent : {R : Type 0} → Ghosts R → (R → Type 0) → ℕ → R → ℕ → Type 0
 StaysLent g these loan resolver name = StaysOne g.hands g.refuses g.source g.lacks g.shown these loan resolver name
 
+-- such a resolver, which may be asked
+abbrev pub MayBeAsked : {R : Type 0} → Ghosts R → (R → Type 0) → ℕ → R → ℕ → Type 0
+MayBeAsked g these loan resolver name = g.ready resolver × StaysLent g these loan resolver name
+
 -- no path has two units
 abbrev pub HaveOne : List (PathId × Held) → Type 0
 HaveOne units = (p : PathId) (u w : Held) → Contains units (p, u) → Contains units (p, w) → u ≡ w

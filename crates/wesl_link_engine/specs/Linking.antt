@@ -7,7 +7,7 @@ use Rattle.wesl_resolve_base.specs.declared.resolver.Resolver.{Ghosts}
 use Rattle.wesl_tree_syntax.specs.Unit.{spelled}
 use Rattle.wesl_tree.specs.Translation.{unit_view}
 use Rattle.wesl_link_engine.specs.Asking.{Request, task_for}
-use Rattle.wesl_link_engine.specs.Refusal.{TellsOf}
+use Rattle.wesl_link_engine.specs.Refusal.{TellsFault}
 use Rattle.wesl_link_engine.specs.Resolved.{Resolved}
 use Rattle.wesl_link_engine.specs.Worlds.{Module, IsModuleOrder, TakesTurns, IsLinked, IsRefused, IsFaultless}
 
@@ -34,9 +34,9 @@ module _ {R : Type 0} (g : Ghosts R) (resolver : R) (q : Request) (unit : Transl
   abbrev pub LinksRoot : Resolved → Type 0
   LinksRoot found = IsLinked (g.hands resolver) (g.refuses resolver) (asked_root q unit) (task_for q) q.limit found.turns found.modules
 
-  -- the error of the diagnostic tells a fault that stands in a world of the root, or want of memory
+  -- the diagnostic tells a fault that stands in a world of the root and the module that holds it, or want of memory
   abbrev pub RefusesRoot : Diagnostic → Type 0
-  RefusesRoot d = TellsOf (IsRefused (g.hands resolver) (g.refuses resolver) (asked_root q unit) (task_for q) q.limit) (out-Diagnostic d).error
+  RefusesRoot d = TellsFault (IsRefused (g.hands resolver) (g.refuses resolver) (asked_root q unit) (task_for q) q.limit) d
 
   -- no fault can stand in a world of the root, but that the resolver wants memory
   abbrev pub IsFaultlessRoot : Type 0

@@ -5,6 +5,7 @@ use Rattle.wesl_tree_names.specs.Path.{Text, Path, path_view}
 use Rattle.wesl_tree_names.specs.declared.path.ModulePath.{ModulePath}
 use Rattle.wesl_link_symbols.specs.declared.ids.PathId.{PathId}
 use Rattle.wesl_tree_base.specs.declared.ids.NameId.{NameId}
+use Rattle.wesl_link_reach.specs.Faults.{AreDistinct}
 use Rattle.wesl_link_reasons.specs.declared.node.Node.{Node}
 use Rattle.wesl_link_reasons.specs.declared.node.Node.TheVariants as node
 use Rattle.wesl_link_reasons.specs.declared.found.Found.{Found}
@@ -55,6 +56,10 @@ IsReasonIn r x chain = IsReasonFrom r r.modules x chain
 -- the answer, where there is one, is a reason of it
 abbrev pub TellsReason : Resolved → Node Path Text → Option (Vec Step Global) → Type 0
 TellsReason r x answer = IfSome answer (λ steps. IsReasonIn r x (steps_told steps.items))
+
+-- no step of the answer is told twice
+abbrev pub TellsOnce : Option (Vec Step Global) → Type 0
+TellsOnce answer = IfSome answer (λ steps. AreDistinct (steps_told steps.items))
 
 -- the symbol of a name in the module at a path
 abbrev pub item_at : ModulePath → Text → Node Path Text

@@ -87,7 +87,7 @@ writes name_of false (root ∷ others) = writes_from name_of others
 
 -- the mangler's record is what it was with a write for each of these names, in module order
 abbrev pub RecordsWrites : {M : Type 0} → Ghosts M → M → M → Bool → List Module → Type 0
-RecordsWrites g old new mangle_root w = IsRecordedBy g.writes (writes (g.name_of old) mangle_root w) (g.recorded old) (g.recorded new)
+RecordsWrites g old new mangle_root w = IsRecordedBy (g.writes old) (writes (g.name_of old) mangle_root w) (g.recorded old) (g.recorded new)
 
 -- ---- the linked unit
 

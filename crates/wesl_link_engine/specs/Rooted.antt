@@ -1,7 +1,7 @@
 -- A root whose kept names are numbers, and what a link of it finds.
 use Rattle.std.specs.Prelude.{◌≡◌, ℕ, Some, None, List, Result, IfErr, drop}
 use Rattle.wesl_tree_names.specs.Path.{Text, Path, path_view}
-use Rattle.wesl_tree_names.specs.declared.errors.Diagnostic.{Diagnostic, out-Diagnostic}
+use Rattle.wesl_tree_names.specs.declared.errors.Diagnostic.{Diagnostic}
 use Rattle.wesl_tree_names.specs.declared.errors.ResolveError.{ResolveError}
 use Rattle.wesl_tree_syntax.specs.Unit.{UnitOf, spelled}
 use Rattle.wesl_tree.specs.Translation.{unit_view}
@@ -18,7 +18,7 @@ use Rattle.wesl_link_tables.specs.declared.texts.NumberTexts.{NumberTexts}
 use Rattle.wesl_link_engine.specs.GivenView.{given}
 use Rattle.wesl_link_engine.specs.Taking.{AreTaken}
 use Rattle.wesl_link_engine.specs.Resolved.{module_at}
-use Rattle.wesl_link_engine.specs.Refusal.{TellsOf}
+use Rattle.wesl_link_engine.specs.Refusal.{TellsFault}
 use Rattle.wesl_link_engine.specs.Worlds.{task_of, IsModuleOrder, IsLinked, IsRefused}
 use Rattle.wesl_link_engine.specs.Keeping.{IsSound, resolved, modules_of, turns_of}
 use Rattle.wesl_link_engine.specs.declared.link.Link.{Link}
@@ -50,11 +50,11 @@ module _ (hands : Path → UnitOf Text → Type 0) (refuses : Path → ResolveEr
     pub sound : IsSound found
     pub names : (p : Path) (n : Text) → (resolved found).names p n ≡ n
 
-  -- a diagnostic tells a fault that stands in a world of the root, or want of memory
+  -- a diagnostic tells a fault that stands in a world of the root and the module that holds it, or want of memory
   abbrev pub RefusesNumbered : Result Resolutions Diagnostic → Type 0
   RefusesNumbered result =
       (keep : List Text) → AreKeptTexts nb root keep
-      → IfErr result (λ d. TellsOf (IsRefused hands refuses (module_at root.path root.unit) (task_of (module_at root.path root.unit) keep root.is_eager) limit) (out-Diagnostic d).error)
+      → IfErr result (TellsFault (IsRefused hands refuses (module_at root.path root.unit) (task_of (module_at root.path root.unit) keep root.is_eager) limit))
 
 -- the link holds the root, whose table is the first, and what was linked
 abbrev pub IsLinkFrom : Root → NumberTexts → links.Linking PathId NameId → Link → Type 0

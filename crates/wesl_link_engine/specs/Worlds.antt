@@ -3,6 +3,7 @@ use Rattle.std.specs.Prelude.{◌≡◌, ◌⊎◌, ◌↔◌, ℕ, ◌+◌, len
 use Rattle.std.specs.List.{AllAdjacentBelow}
 use Rattle.wesl_tree_names.specs.Path.{Text, Path, is_relative}
 use Rattle.wesl_tree_names.specs.PathOrder.{path_before}
+use Rattle.wesl_tree_names.specs.Errors.{resolver_is_memory}
 use Rattle.wesl_tree_names.specs.declared.errors.ResolveError as resolve_error
 use Rattle.wesl_tree_syntax.specs.Unit.{UnitOf}
 use Rattle.wesl_link_symbols.specs.declared.symbols.Symbol.{Symbol}
@@ -56,7 +57,12 @@ IsModuleOrder root w = (others : List Module) × (w ≡ root ∷ others) × AllA
 abbrev pub IsRefused : {E : Type 0} → (Path → UnitOf Text → Type 0) → (Path → E → Type 0) → Module → Task Path Text → ℕ → Fault Path Text E → Type 0
 IsRefused hands refuses root task limit fault = (w : List Module) × IsWorld hands root w × Stands refuses task limit (tables w) fault
 
+-- the resolver wants memory, as it tells it or as what its refusal holds
+abbrev pub IsWantOfMemory : Fault Path Text resolve_error.ResolveError → Type 0
+IsWantOfMemory (refused e) = resolver_is_memory e ≡ true
+IsWantOfMemory _ = ⊥
+
 -- no fault can stand, whatever is handed out, but that the resolver wants memory
 abbrev pub IsFaultless : (Path → UnitOf Text → Type 0) → (Path → resolve_error.ResolveError → Type 0) → Module → Task Path Text → ℕ → Type 0
 IsFaultless hands refuses root task limit =
-    (fault : Fault Path Text resolve_error.ResolveError) → IsRefused hands refuses root task limit fault → fault ≡ refused resolve_error.Memory
+    (fault : Fault Path Text resolve_error.ResolveError) → IsRefused hands refuses root task limit fault → IsWantOfMemory fault

@@ -59,7 +59,8 @@ impl GivenNames {
         ensures keeps { Keeps (given self.old) (given self.new) }
         ensures same { (p : Path) (i : Text) → M.name_of mangler.new p i ≡ M.name_of mangler.old p i }
         ensures same_variants { SameVariants (M.variant_of mangler.old) (M.variant_of mangler.new) }
-        ensures recorded { OnOk result (RecordsName M.writes (M.name_of mangler.old) path.now item.now (given self.old symbol) (M.recorded mangler.old) (M.recorded mangler.new)) }
+        ensures same_writing { M.writes mangler.new ≡ M.writes mangler.old }
+        ensures recorded { OnOk result (RecordsName (M.writes mangler.old) (M.name_of mangler.old) path.now item.now (given self.old symbol) (M.recorded mangler.old) (M.recorded mangler.new)) }
     {
         if self.get(symbol).is_some() {
             return Ok(());
@@ -92,7 +93,8 @@ impl GivenNames {
         ensures keeps { Keeps (given self.old) (given self.new) }
         ensures same { (p : Path) (i : Text) → M.name_of mangler.new p i ≡ M.name_of mangler.old p i }
         ensures same_variants { SameVariants (M.variant_of mangler.old) (M.variant_of mangler.new) }
-        ensures recorded { OnOk result (RecordsTable M.writes (M.name_of mangler.old) path.now numbers.now table.now self.old (M.recorded mangler.old) (M.recorded mangler.new)) }
+        ensures same_writing { M.writes mangler.new ≡ M.writes mangler.old }
+        ensures recorded { OnOk result (RecordsTable (M.writes mangler.old) (M.name_of mangler.old) path.now numbers.now table.now self.old (M.recorded mangler.old) (M.recorded mangler.new)) }
     {
         for declaration in table.declarations() {
             if let Some(name) = declaration.name() {

@@ -9,7 +9,7 @@ ghost use Rattle.wesl_link_symbols.specs.Tables as tables;
 ghost use Rattle.wesl_link_reach.specs.declared.loader.LoadError.TheVariants as load_error;
 ghost use Rattle.wesl_link_tables.specs.Numbering.{Numbering, Grows, IsNumbered, PathAt};
 ghost use Rattle.wesl_link_tables.specs.NumbersView.{numbering};
-ghost use Rattle.wesl_link_engine.specs.Handing.{Keeps, KeepsOf, StillHold, StaysOne, IsReadyPath, IsHandedTable, IsRefusedPath, KeepsUnit};
+ghost use Rattle.wesl_link_engine.specs.Handing.{KeepsOf, MayBeAsked, StillHold, IsReadyPath, IsHandedTable, IsRefusedPath, KeepsUnit};
 ghost use Rattle.wesl_link_engine.specs.declared.loaded.Held as held;
 
 use crate::loaded::Held;
@@ -138,7 +138,9 @@ impl<R: Resolver, S: Source<R>> Loader<ResolveError> for ModuleLoader<'_, '_, R,
 
     ghost refuses = { λ s p e. IsRefusedPath S.refuses (numbering s.numbers.now) p e };
 
-    ghost ready = { λ s p. IsReadyPath (numbering s.numbers.now) p × ((R.ready s.resolver.now × StaysOne R.hands R.refuses R.source R.lacks R.shown S.these S.loan s.resolver.now s.resolver.ghost_name) × Keeps (R.hands s.resolver.now) (R.refuses s.resolver.now) S.hands S.refuses S.first (numbering s.numbers.now) s.units.now.entries) };
+    ghost ready = { λ s p. IsReadyPath (numbering s.numbers.now) p
+        × (MayBeAsked R.Resolver S.these S.loan s.resolver.now s.resolver.ghost_name
+        × KeepsOf R.Resolver s.resolver.now S.hands S.refuses S.first (numbering s.numbers.now) s.units.now.entries) };
 
     fn load(&mut self, alloc: Global, path: PathId) -> Result<Table, LoadError<ResolveError>> {
         let Some(module) = path_of(alloc, self.numbers, path).ok() else {

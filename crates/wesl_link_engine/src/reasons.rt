@@ -5,7 +5,7 @@ ghost use Rattle.wesl_tree_base.specs.declared.ids.NameId.{NameId};
 ghost use Rattle.wesl_link_reasons.specs.declared.node.Node as nodes;
 ghost use Rattle.wesl_link_tables.specs.TextsView.{numbering_of_texts as numbering};
 ghost use Rattle.wesl_link_engine.specs.Keeping.{IsLinkOf, task_in};
-ghost use Rattle.wesl_link_engine.specs.Reasons.{AreReasonsIn, HasTexts, HoldsIn, IsNodeOf, IsReasonOf, item_at, module_node, told_node, steps_told};
+ghost use Rattle.wesl_link_engine.specs.Reasons.{AreReasonsIn, HasTexts, HoldsIn, IsNodeOf, IsReasonOf, TellsOnce, item_at, module_node, told_node, steps_told};
 
 use crate::link::{Link, table_at};
 use crate::steps::{Step, steps_of};
@@ -65,6 +65,7 @@ fn steps_to<'a>(
     requires sound { IsLinkOf (task_in link.now) link.now }
     requires named { HasTexts (numbering link.now.numbers) node }
     ensures told { IfOk result (λ o. IfSome o (λ steps. IsReasonOf link.now (told_node (numbering link.now.numbers) node) (steps_told steps.items))) }
+    ensures once { IfOk result TellsOnce }
     ensures none { IfOk result (λ o. IfNone o (HoldsIn link.now (told_node (numbering link.now.numbers) node) → ⊥)) }
 {
     let reasons = all_reasons(alloc, link)?;
@@ -83,6 +84,7 @@ pub(crate) fn item_reason<'a>(
 ) -> Result<Option<Vec<Step<'a>>>, AllocError>
     requires sound { IsLinkOf (task_in link.now) link.now }
     ensures told { IfOk result (λ o. IfSome o (λ steps. IsReasonOf link.now (item_at path.now name.now) (steps_told steps.items))) }
+    ensures once { IfOk result TellsOnce }
     ensures none { IfOk result (λ o. IfNone o (HoldsIn link.now (item_at path.now name.now) → ⊥)) }
 {
     match item_of(&link.numbers, path, name) {
@@ -99,6 +101,7 @@ pub(crate) fn module_reason<'a>(
 ) -> Result<Option<Vec<Step<'a>>>, AllocError>
     requires sound { IsLinkOf (task_in link.now) link.now }
     ensures told { IfOk result (λ o. IfSome o (λ steps. IsReasonOf link.now (module_node path.now) (steps_told steps.items))) }
+    ensures once { IfOk result TellsOnce }
     ensures none { IfOk result (λ o. IfNone o (HoldsIn link.now (module_node path.now) → ⊥)) }
 {
     match module_of(&link.numbers, path) {

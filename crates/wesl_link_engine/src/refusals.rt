@@ -104,7 +104,8 @@ fn module_at(
     }
 }
 
-/// The diagnostic of an error in the module of a number, unless there is no memory to tell it.
+/// The diagnostic of an error in the module of a number, unless there is no memory to tell it. It tells nothing else of the
+/// place.
 fn in_module(alloc: Global, numbers: &Numbers, error: Error, id: Option<PathId>) -> Diagnostic
     ensures { TellsAt (numbering numbers.now) id error result }
 {

@@ -8,7 +8,7 @@ ghost use Rattle.wesl_link_engine.specs.GivenView.{given as given_names};
 ghost use Rattle.wesl_link_engine.specs.Resolved.{paths_of, paths_told, first_path, IsNothing, IsMangled, AssemblesTo, RecordsWrites};
 ghost use Rattle.wesl_link_engine.specs.Keeping.{modules_in, IsLinkOf, task_in, IsSound, resolved, modules_of, turns_of};
 ghost use Rattle.wesl_link_engine.specs.Holding.{IsGivenAll};
-ghost use Rattle.wesl_link_engine.specs.Reasons.{IsHeldIn, TellsReason, item_at, module_node};
+ghost use Rattle.wesl_link_engine.specs.Reasons.{IsHeldIn, TellsOnce, TellsReason, item_at, module_node};
 
 use crate::assemble::assembled;
 use crate::given::GivenNames;
@@ -172,7 +172,7 @@ impl Resolutions {
     }
 
     /// Why the declarations of a name in the module at a path are held: steps from a kept name or the root's module to them,
-    /// each next one asked for by the one before. None where their symbol is not reached. Refused for want of memory alone.
+    /// each next one asked for by the one before, and none there twice. None where their symbol is not reached. Refused for want of memory alone.
     pub fn reason(
         &self,
         alloc: Global,
@@ -181,6 +181,7 @@ impl Resolutions {
     ) -> Result<Option<Vec<Step<'_>>>, Error>
         requires sound { IsSound self.now }
         ensures told { IfOk result (TellsReason (resolved self.now) (item_at path.now name.now)) }
+        ensures once { IfOk result TellsOnce }
         ensures none { IfOk result (λ o. (o ≡ None) ↔ (IsHeldIn (resolved self.now) (item_at path.now name.now) → ⊥)) }
         ensures refused { IfErr result (λ e. e ≡ error.Memory) }
     {
@@ -198,6 +199,7 @@ impl Resolutions {
     ) -> Result<Option<Vec<Step<'_>>>, Error>
         requires sound { IsSound self.now }
         ensures told { IfOk result (TellsReason (resolved self.now) (module_node path.now)) }
+        ensures once { IfOk result TellsOnce }
         ensures none { IfOk result (λ o. (o ≡ None) ↔ (IsHeldIn (resolved self.now) (module_node path.now) → ⊥)) }
         ensures refused { IfErr result (λ e. e ≡ error.Memory) }
     {

@@ -33,8 +33,8 @@ module _ {P N : Type 0} where
   )
 
   pub root_refused : {E : Type 0} (hands : P → Table P N → Type 0) (refuses : P → E → Type 0) (root : Table P N) (task : Task P N) (limit : ℕ) (n : N) → task.root ≡ root.path → Clashes root n
-      → Explained hands refuses root task limit (duplicate n)
-  root_refused hands refuses root task limit n is clash = (root ∷ [], world_alone hands root, (root, contains_first root [], root_entered root.path (sym is), clash))
+      → Explained hands refuses root task limit (duplicate root.path n)
+  root_refused hands refuses root task limit n is clash = (root ∷ [], world_alone hands root, (root, (contains_first root [], refl), root_entered root.path (sym is), clash))
 
   pub root_crowded : {E : Type 0} (hands : P → Table P N → Type 0) (refuses : P → E → Type 0) (root : Table P N) (task : Task P N) (limit : ℕ) → task.root ≡ root.path → root.is_crowded ≡ true
       → Explained hands refuses root task limit (too_many_flags root.path)

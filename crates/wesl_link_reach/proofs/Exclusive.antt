@@ -114,8 +114,8 @@ module _ {P N : Type 0} where
       → ((p : P) (t : Table P N) (e : E) → hands p t → refuses p e → ⊥)
       → IsLinked hands refuses start task limit k → IsWorld hands start v → Shares k.tables v task
       → (fault : Fault P N E) → Stands refuses task limit v fault → Stands refuses task limit k.tables fault
-  stands_into hands refuses start task limit k v never linked in_v shares (duplicate n) (t, held, h, clash) =
-      let g = entered_into shares t.path h in (t, (shares.held t.path t g (held, refl)).0, g, clash)
+  stands_into hands refuses start task limit k v never linked in_v shares (duplicate p n) (t, at, h, clash) =
+      let g = entered_into shares p h in (t, shares.held p t g at, g, clash)
   stands_into hands refuses start task limit k v never linked in_v shares (refused e) (p, h, absent, is) =
       let (m, at) = (linked.paths p).1 (entered_into shares p h) in
       absurd (handed_not_refused hands refuses start v p e never in_v absent is m at.1 (linked.world.handed m at.0))

@@ -35,7 +35,7 @@ module _ {P N : Type 0} where
 
   pub no_fault : {E : Type 0} (refuses : P → E → Type 0) (w : List (Table P N)) (task : (Task P N)) (ss : List (Symbol P N)) (limit : ℕ) (fault : Fault P N E) → IsSettled w task ss → length w ≤ limit
       → Stands refuses task limit w fault → ⊥
-  no_fault refuses w task ss limit (duplicate n) c room (t, held, h, clash) = (c.admitted t held).clear n clash
+  no_fault refuses w task ss limit (duplicate p n) c room (t, at, h, clash) = (c.admitted t at.0).clear n clash
   no_fault refuses w task ss limit (refused e) c room (p, h, absent, is) = let (t, at) = entered_at c p h in absent t at
   no_fault refuses w task ss limit (missing p n) c room (l, f, rest) = let (s, leads, held) = settled c l f in not_missing w c.clear l s p n leads rest
   no_fault refuses w task ss limit (private n p) c room (l, f, rest) = let (s, leads, held) = settled c l f in not_private w c.clear l s n p leads rest

@@ -216,11 +216,11 @@ module _ {P N : Type 0} {hands : P → Table P N → Type 0} {ready : P → Type
 
   -- two binders with different targets stand as a fault
   pub clash_refused : {E : Type 0} (refuses : P → E → Type 0) (added : Table P N) (n : N) → IsSoundIn hands ready root task limit others ss places answers steps → hands added.path added
-      → Entered (root ∷ others) task added.path → ((x : Table P N) → IsAt (root ∷ others) added.path x → ⊥) → Clashes added n → Explained hands refuses root task limit (duplicate n)
+      → Entered (root ∷ others) task added.path → ((x : Table P N) → IsAt (root ∷ others) added.path x → ⊥) → Clashes added n → Explained hands refuses root task limit (duplicate added.path n)
   clash_refused refuses added n s given entered absent clash = (
     root ∷ others ++ added ∷ [],
     world_more hands root (root ∷ others) added s.world given absent,
-    (added, Contains-push (root ∷ others) added, entered_more (within_push (root ∷ others) added) added.path entered, clash),
+    (added, (Contains-push (root ∷ others) added, refl), entered_more (within_push (root ∷ others) added) added.path entered, clash),
   )
 
   -- a module with a split name and many flags stands as a fault

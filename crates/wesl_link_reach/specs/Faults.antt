@@ -11,7 +11,7 @@ use Rattle.wesl_link_reach.specs.World.{IsAt, IsWorld, IsMissingAt, IsPrivateAt,
 
 -- why a link is refused, where a loader refuses with an `E`
 pub data Fault (P N E : Type 0) : Type 0 where
-  duplicate : N → Fault P N E
+  duplicate : P → N → Fault P N E
   refused : E → Fault P N E
   missing : P → N → Fault P N E
   private : N → P → Fault P N E
@@ -43,7 +43,7 @@ pub data AreDistinct {X : Type 0} : List X → Type 0 where
 module _ {P N E : Type 0} (refuses : P → E → Type 0) (task : Task P N) (limit : ℕ) (w : List (Table P N)) where
   -- the fault stands in the world
   abbrev pub Stands : Fault P N E → Type 0
-  Stands (duplicate n) = (t : Table P N) × Contains w t × Entered w task t.path × Clashes t n
+  Stands (duplicate p n) = (t : Table P N) × IsAt w p t × Entered w task p × Clashes t n
   Stands (refused e) = (p : P) × Entered w task p × ((t : Table P N) → IsAt w p t → ⊥) × refuses p e
   Stands (missing p n) = (l : LookUp P N) × Followed w task l × IsMissingAt w l p n
   Stands (private n p) = (l : LookUp P N) × Followed w task l × IsPrivateAt w l n p

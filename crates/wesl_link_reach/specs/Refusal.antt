@@ -10,7 +10,7 @@ use Rattle.wesl_link_reach.specs.Faults.{duplicate, refused, missing, private, t
 
 -- the fault stands in a world of modules that were handed out, or memory was short
 abbrev pub IsExplained : {E : Type 0} → (PathId → Table PathId NameId → Type 0) → (PathId → E → Type 0) → Table PathId NameId → Task PathId NameId → ℕ → LinkError E → Type 0
-IsExplained hands refuses root task limit (DuplicateSymbol p n) = Explained hands refuses root task limit (duplicate n)
+IsExplained hands refuses root task limit (DuplicateSymbol p n) = Explained hands refuses root task limit (duplicate p n)
 IsExplained hands refuses root task limit (Refused e) = Explained hands refuses root task limit (refused e)
 IsExplained hands refuses root task limit (MissingDecl p n) = Explained hands refuses root task limit (missing p n)
 IsExplained hands refuses root task limit (Private n p) = Explained hands refuses root task limit (private n p)

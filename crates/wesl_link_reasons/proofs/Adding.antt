@@ -15,7 +15,7 @@ use Rattle.wesl_link_reasons.specs.declared.map.Map.{Map}
 use Rattle.wesl_link_reasons.specs.declared.node.Node.{Node}
 use Rattle.wesl_link_reasons.specs.declared.node.Node.TheVariants.{Item as ItemOf}
 use Rattle.wesl_link_reasons.specs.Reasons.{IsHeld}
-use Rattle.wesl_link_reasons.specs.Found.{IsFoundAt, IsFound, AreIndexed, AddsFound, IsNamed, IsGiven, StaysFound}
+use Rattle.wesl_link_reasons.specs.Found.{IsFoundAt, IsFound, StandOnce, AreIndexed, AddsFound, IsNamed, IsGiven, StaysFound}
 use Rattle.wesl_link_reasons.specs.Searching.{world_in, task_in, IsSound}
 use Rattle.wesl_link_reasons.proofs.Holding.{holds_on, first_held}
 
@@ -126,10 +126,25 @@ pub indexed_start : (fs : List Found) (places : List (Item × ℕ)) → fs ≡ [
 indexed_start fs places e f = record {
   found = λ x k h. absurd (contains_nil (x, k) (subst (λ (es : List (Item × ℕ)). Contains es (x, k)) f h));
   indexed = λ x (k, (g, at, is)). absurd (let b : k < length fs = slice_get_within fs k g at in let l : length fs ≡ 0 = ap length e in omega arith);
+  once = λ k j g h at. absurd (let b : k < length fs = slice_get_within fs k g at in let l : length fs ≡ 0 = ap length e in omega arith);
 }
 
-pub indexed_more : (a b : List Found) (x : Item) (o : Option ℕ) (old fresh : List (Item × ℕ)) → AreIndexed a old → Puts old x (length a) fresh → b ≡ a ++ record { node = x; asker = o } ∷ [] → AreIndexed b fresh
-indexed_more a b x o old fresh indexed put e =
+-- a node that was not found is found once it is added, and once
+once_more : (a b : List Found) (x : Item) (o : Option ℕ) → StandOnce a → (IsFound a x → ⊥) → b ≡ a ++ record { node = x; asker = o } ∷ [] → StandOnce b
+once_more a b x o once fresh e k j f g at_k at_j same = by (place k f at_k) (place j g at_j)
+  where
+    place : (i : ℕ) (h : Found) → slice_get b i ≡ Some h → (slice_get a i ≡ Some h) ⊎ ((i ≡ length a) × (h ≡ record { node = x; asker = o }))
+    place i h at = at_push a (record { node = x; asker = o }) i h (subst (λ (xs : List Found). slice_get xs i ≡ Some h) e at)
+
+    by : (slice_get a k ≡ Some f) ⊎ ((k ≡ length a) × (f ≡ record { node = x; asker = o })) → (slice_get a j ≡ Some g) ⊎ ((j ≡ length a) × (g ≡ record { node = x; asker = o })) → k ≡ j
+    by (inl p) (inl q) = once k j f g p q same
+    by (inl p) (inr (last, is)) = absurd (fresh (k, (f, p, same ∙ ap (λ (h : Found). h.node) is)))
+    by (inr (last, is)) (inl q) = absurd (fresh (j, (g, q, sym same ∙ ap (λ (h : Found). h.node) is)))
+    by (inr (last, is)) (inr (end, equal)) = last ∙ sym end
+
+pub indexed_more : (a b : List Found) (x : Item) (o : Option ℕ) (old fresh : List (Item × ℕ)) → AreIndexed a old → (IsFound a x → ⊥) → Puts old x (length a) fresh → b ≡ a ++ record { node = x; asker = o } ∷ []
+    → AreIndexed b fresh
+indexed_more a b x o old fresh indexed unfound put e =
     let adds : AddsFound a b o (λ y. y ≡ x) = adds_one a b x o e in
     let here : IsFoundAt b x (length a) = (record { node = x; asker = o }, subst (λ (xs : List Found). slice_get xs (length a) ≡ Some (record { node = x; asker = o })) (sym e) (last_place a (record { node = x; asker = o })), refl) in
     record {
@@ -145,10 +160,12 @@ indexed_more a b x o old fresh indexed put e =
             ])
         | inr (past, asks, same) ↦ (length a, subst (λ (z : Item). Contains fresh (z, length a)) (sym same ∙ is) put.has)
       ];
+      once = once_more a b x o indexed.once unfound e;
     }
 
-pub indexed_add : (a b : List Found) (x : Item) (o : Option ℕ) (n : ℕ) (old fresh : List (Item × ℕ)) → n ≡ length a → AreIndexed a old → Puts old x n fresh → b ≡ a ++ record { node = x; asker = o } ∷ [] → AreIndexed b fresh
-indexed_add a b x o n old fresh e indexed put is = indexed_more a b x o old fresh indexed (subst (λ (k : ℕ). Puts old x k fresh) e put) is
+pub indexed_add : (a b : List Found) (x : Item) (o : Option ℕ) (n : ℕ) (old fresh : List (Item × ℕ)) → n ≡ length a → AreIndexed a old → (IsFound a x → ⊥) → Puts old x n fresh → b ≡ a ++ record { node = x; asker = o } ∷ []
+    → AreIndexed b fresh
+indexed_add a b x o n old fresh e indexed unfound put is = indexed_more a b x o old fresh indexed unfound (subst (λ (k : ℕ). Puts old x k fresh) e put) is
 
 -- ---- sound findings
 

@@ -1,5 +1,5 @@
 -- What a search has when it has ended, and how a chain is led back.
-use Rattle.std.proofs.Common.{◌≡◌, inl, inr, ℕ, List, [], ◌∷◌, ◌++◌, length, reverse, slice_get, Option, Some, None, Contains, subst, sym, refl, ap, ◌∙◌}
+use Rattle.std.proofs.Common.{◌≡◌, ◌⊎◌, inl, inr, ℕ, ◌<◌, ◌≤◌, arith, List, [], ◌∷◌, ◌++◌, length, reverse, slice_get, Option, Some, None, Contains, subst, sym, refl, ap, ◌∙◌}
 use Rattle.std.proofs.lemmas.List.{reverse-append}
 use Rattle.std.proofs.lemmas.Option.{slice_get_within}
 use Rattle.wesl_link_symbols.specs.declared.ids.PathId.{PathId}
@@ -7,10 +7,13 @@ use Rattle.wesl_tree_base.specs.declared.ids.NameId.{NameId}
 use Rattle.wesl_link_symbols.specs.declared.symbols.LookUp.{LookUp}
 use Rattle.wesl_link_symbols.specs.declared.symbols.Symbol.{Symbol}
 use Rattle.wesl_link_symbols.specs.Tables.{Table}
-use Rattle.wesl_link_symbols.proofs.Lists.{one_at}
+use Rattle.wesl_link_symbols.proofs.Lists.{one_at, contains_nil, contains_cases}
 use Rattle.wesl_link_reach.specs.World.{Task, Walk}
 use Rattle.wesl_link_reach.specs.World.Walk.{begin, step}
+use Rattle.wesl_link_reach.specs.Faults.{AreDistinct}
+use Rattle.wesl_link_reach.specs.Faults.AreDistinct.{none as none_distinct, one_more as one_distinct}
 use Rattle.wesl_link_reach.specs.Laws.{IsAskedBy, IsClosed}
+use Rattle.wesl_link_reach.proofs.Lists.{contains_one}
 use Rattle.wesl_link_reach.proofs.Least.{entered_in, reached_in}
 use Rattle.wesl_link_reasons.specs.declared.found.Found.{Found}
 use Rattle.wesl_link_reasons.specs.declared.map.Map.{Map}
@@ -19,7 +22,7 @@ use Rattle.wesl_link_reasons.specs.declared.node.Node.{Node}
 use Rattle.wesl_link_reasons.specs.declared.node.Node.TheVariants.{KeptName, Module, Item}
 use Rattle.wesl_link_reasons.specs.Reasons.{Chain, AsksFor, IsHeld}
 use Rattle.wesl_link_reasons.specs.Reasons.Chain.{alone, before}
-use Rattle.wesl_link_reasons.specs.Found.{IsFoundAt, IsFound, IsGiven, AreGiven, AreReasons, LeadsBack, Explains}
+use Rattle.wesl_link_reasons.specs.Found.{IsFoundAt, IsFound, StandOnce, IsGiven, AreGiven, AreReasons, LeadsBack, Explains}
 use Rattle.wesl_link_reasons.specs.Searching.{world_in, task_in, IsSound, AreThrough, IsDone, AreDone, HasFirsts}
 
 module _ (m : Map) (s : Search) (sound : IsSound m s.findings) (firsts : HasFirsts m s.findings.nodes.items)
@@ -103,6 +106,36 @@ back_next fs place at j g h xs ys back here asked there e w task first last give
 pub back_ends : (fs : List Found) (place at : ℕ) (g : Found) (xs : Nodes) → IsBack fs place at xs → slice_get fs at ≡ Some g → g.asker ≡ None → LeadsBack fs place xs
 back_ends fs place at g xs back here none first at1 w task reasons =
     (g.node, subst (λ (o : Option ℕ). IsGiven w task fs g.node o) none (reasons.given at g here), back w task first g reasons.given at1 here)
+
+-- each node of the chain stands at the place or behind it, and once in the chain
+pub record AreBehind (fs : List Found) (at : ℕ) (xs : Nodes) : Type 0 where
+  pub once : AreDistinct xs
+  pub behind : (x : Node PathId NameId) → Contains xs x → (k : ℕ) × (at ≤ k) × IsFoundAt fs x k
+
+pub behind_start : (fs : List Found) (at : ℕ) (h : Found) (xs ys : Nodes) → slice_get fs at ≡ Some h → xs ≡ [] → ys ≡ xs ++ h.node ∷ [] → AreBehind fs at (reverse ys)
+behind_start fs at h xs ys here e f =
+    let flat : h.node ∷ [] ≡ reverse ys = ap (λ (zs : Nodes). h.node ∷ reverse zs) (sym e) ∙ last_first xs ys h.node f in
+    subst (λ (zs : Nodes). AreBehind fs at zs) flat record {
+      once = one_distinct h.node [] (λ c. contains_nil h.node c) none_distinct;
+      behind = λ x c. (at, (omega arith), (h, here, contains_one h.node x c));
+    }
+
+pub behind_next : (fs : List Found) (at j : ℕ) (h : Found) (xs ys : Nodes) → StandOnce fs → AreBehind fs at (reverse xs) → slice_get fs j ≡ Some h → j < at → ys ≡ xs ++ h.node ∷ [] → AreBehind fs j (reverse ys)
+behind_next fs at j h xs ys once back there less e = subst (λ (zs : Nodes). AreBehind fs j zs) (last_first xs ys h.node e) record {
+  once = one_distinct h.node (reverse xs) fresh back.once;
+  behind = λ x c. by x (contains_cases h.node x (reverse xs) c);
+}
+  where
+    fresh : Contains (reverse xs) h.node → ⊥
+    fresh c =
+        let (k, more, (f, at_k, is)) = back.behind h.node c in
+        let same : k ≡ j = once k j f h at_k there is in
+        let far : at ≤ k = more in
+        omega arith
+
+    by : (x : Node PathId NameId) → (h.node ≡ x) ⊎ Contains (reverse xs) x → (k : ℕ) × (j ≤ k) × IsFoundAt fs x k
+    by x (inl is) = (j, omega arith, (h, there, is))
+    by x (inr c) = let (k, more, stands) = back.behind x c in let far : at ≤ k = more in (k, omega arith, stands)
 
 -- the chain to the node at a place, where the list is told under other names
 pub told_by : (fs nodes now : List Found) (x : Node PathId NameId) (k : ℕ) (xs : Nodes) → nodes ≡ fs → fs ≡ now → IsFoundAt fs x k → ((f : Found) → slice_get nodes k ≡ Some f → Explains nodes f.node xs)

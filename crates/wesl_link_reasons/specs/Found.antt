@@ -18,10 +18,15 @@ IsFoundAt fs x k = (f : Found) × (slice_get fs k ≡ Some f) × (f.node ≡ x)
 abbrev pub IsFound : List Found → Node PathId NameId → Type 0
 IsFound fs x = (k : ℕ) × IsFoundAt fs x k
 
--- the places tell where each node that was found stands
+-- no node was found twice
+abbrev pub StandOnce : List Found → Type 0
+StandOnce fs = (k j : ℕ) (f g : Found) → slice_get fs k ≡ Some f → slice_get fs j ≡ Some g → f.node ≡ g.node → k ≡ j
+
+-- the places tell where each node that was found stands, and none was found twice
 pub record AreIndexed (fs : List Found) (places : List (Node PathId NameId × ℕ)) : Type 0 where
   pub found : (x : Node PathId NameId) (k : ℕ) → Contains places (x, k) → IsFoundAt fs x k
   pub indexed : (x : Node PathId NameId) → IsFound fs x → (k : ℕ) × Contains places (x, k)
+  pub once : StandOnce fs
 
 -- who asks stands before what is asked for
 abbrev pub AreOrdered : List Found → Type 0

@@ -44,6 +44,7 @@ impl Findings {
     /// Adds a node that was not found before.
     fn add(&mut self, node: Node<PathId, NameId>, asker: Option<usize>) -> Result<(), AllocError>
         requires indexed { AreIndexed self.old.nodes.items self.old.places.entries }
+        requires fresh { IsFound self.old.nodes.items node → ⊥ }
         ensures indexed { OnOk result (AreIndexed self.new.nodes.items self.new.places.entries) }
         ensures adds { OnOk result (AddsFound self.old.nodes.items self.new.nodes.items asker (λ x. x ≡ node)) }
     {

@@ -1,11 +1,12 @@
 //! Reasons: for each node that is held in a link a chain to it.
-ghost use Rattle.std.specs.Prelude.{◌≡◌, ◌<◌, [], length, slice_get, Some, IfOk, IfSome, IfNone, OnOk};
+ghost use Rattle.std.specs.Prelude.{◌≡◌, ◌<◌, [], length, reverse, slice_get, Some, IfOk, IfSome, IfNone, OnOk};
 ghost use Rattle.wesl_link_symbols.specs.declared.ids.PathId.{PathId};
 ghost use Rattle.wesl_tree_base.specs.declared.ids.NameId.{NameId};
 ghost use Rattle.wesl_link_reasons.specs.declared.found.Found.{Found};
 ghost use Rattle.wesl_link_reasons.specs.declared.node.Node.TheVariants.{Item, Module};
 ghost use Rattle.wesl_link_reasons.specs.Reasons.{IsUnbroken, task_from};
-ghost use Rattle.wesl_link_reasons.specs.Found.{AreOrdered, AreReasons, Denies, Explains, LeadsBack};
+ghost use Rattle.wesl_link_reach.specs.Faults.{AreDistinct};
+ghost use Rattle.wesl_link_reasons.specs.Found.{AreOrdered, AreReasons, Denies, Explains, LeadsBack, StandOnce};
 
 use crate::findings::Findings;
 use crate::found::Found;
@@ -51,9 +52,11 @@ fn add_askers(
     chain: &mut Vec<Node<PathId, NameId>>,
 ) -> Result<(), AllocError>
     requires ordered { AreOrdered nodes.now }
+    requires once { StandOnce nodes.now }
     requires within { place < length nodes.now }
     requires empty { chain.old.items ≡ [] }
-    ensures { OnOk result (LeadsBack nodes.now place chain.new.items) }
+    ensures told { OnOk result (LeadsBack nodes.now place chain.new.items) }
+    ensures once { OnOk result (AreDistinct (reverse chain.new.items)) }
 {
     let mut at = place;
     chain.push(nodes[place].node)?;
@@ -71,8 +74,10 @@ fn chain_to(
     place: usize,
 ) -> Result<Vec<Node<PathId, NameId>>, AllocError>
     requires ordered { AreOrdered nodes.now }
+    requires once { StandOnce nodes.now }
     requires within { place < length nodes.now }
-    ensures { IfOk result (λ v. (f : Found) → slice_get nodes.now place ≡ Some f → Explains nodes.now f.node v.items) }
+    ensures told { IfOk result (λ v. (f : Found) → slice_get nodes.now place ≡ Some f → Explains nodes.now f.node v.items) }
+    ensures once { IfOk result (λ v. AreDistinct v.items) }
 {
     let mut chain = Vec::new(alloc);
     add_askers(nodes, place, &mut chain)?;
@@ -82,13 +87,14 @@ fn chain_to(
 
 impl Reasons {
     /// Why a node is held in the link: nodes from a kept name or the root's module to it, each next one asked for by the one
-    /// before (WESL, "Imports"). None where the node is not held. Refused for want of memory alone.
+    /// before, and none there twice (WESL, "Imports"). None where the node is not held. Refused for want of memory alone.
     pub fn of_node(
         &self,
         alloc: Global,
         node: Node<PathId, NameId>,
     ) -> Result<Option<Vec<Node<PathId, NameId>>>, AllocError>
         ensures told { IfOk result (λ o. IfSome o (λ v. Explains self.now node v.items)) }
+        ensures once { IfOk result (λ o. IfSome o (λ v. AreDistinct v.items)) }
         ensures none { IfOk result (λ o. IfNone o (Denies self.now node)) }
     {
         match self.findings.place_of(node) {
@@ -104,6 +110,7 @@ impl Reasons {
         symbol: Symbol<PathId, NameId>,
     ) -> Result<Option<Vec<Node<PathId, NameId>>>, AllocError>
         ensures told { IfOk result (λ o. IfSome o (λ v. Explains self.now (Item symbol) v.items)) }
+        ensures once { IfOk result (λ o. IfSome o (λ v. AreDistinct v.items)) }
         ensures none { IfOk result (λ o. IfNone o (Denies self.now (Item symbol))) }
     {
         self.of_node(alloc, Node::Item(symbol))
@@ -116,6 +123,7 @@ impl Reasons {
         path: PathId,
     ) -> Result<Option<Vec<Node<PathId, NameId>>>, AllocError>
         ensures told { IfOk result (λ o. IfSome o (λ v. Explains self.now (Module path) v.items)) }
+        ensures once { IfOk result (λ o. IfSome o (λ v. AreDistinct v.items)) }
         ensures none { IfOk result (λ o. IfNone o (Denies self.now (Module path))) }
     {
         self.of_node(alloc, Node::Module(path))

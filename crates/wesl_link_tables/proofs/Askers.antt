@@ -9,6 +9,7 @@ use Rattle.wesl_tree_names.specs.Path.{Text, Path}
 use Rattle.wesl_tree_names.specs.PathOrder.{same_path}
 use Rattle.wesl_tree_names.proofs.Order.{same_path-decides}
 use Rattle.wesl_tree_syntax.specs.Tree.{TreeOf}
+use Rattle.wesl_tree_syntax.specs.Unit.{UnitOf}
 use Rattle.wesl_cond_choices.specs.declared.place.Place.{Place}
 use Rattle.wesl_cond_choices.specs.declared.place.Place.TheVariants as places
 use Rattle.wesl_cond_choices.specs.declared.place.Place.TheVariants.{Always}
@@ -40,7 +41,7 @@ Ours = Binder Path Text
 
 -- ---- lists
 
-mapped_from : {X Y : Type 0} (f : X → Y) (xs : List X) (y : Y) → Contains (map f xs) y → (x : X) × Contains xs x × (y ≡ f x)
+pub mapped_from : {X Y : Type 0} (f : X → Y) (xs : List X) (y : Y) → Contains (map f xs) y → (x : X) × Contains xs x × (y ≡ f x)
 mapped_from f [] y (k, l, e) = absurd (omega (arith, l))
 mapped_from f (x ∷ xs) y (zero, l, e) = (x, (0, omega arith, refl), sym e)
 mapped_from f (x ∷ xs) y (suc k, l, e) = let (z, (j, m, g), h) = mapped_from f xs y (k, omega (arith, l), e) in (z, (suc j, omega (arith, m), g), h)
@@ -50,7 +51,7 @@ mapped_in f [] x (k, l, e) = absurd (omega (arith, l))
 mapped_in f (y ∷ xs) x (zero, l, e) = (0, omega arith, ap f e)
 mapped_in f (y ∷ xs) x (suc k, l, e) = let (j, m, g) = mapped_in f xs x (k, omega (arith, l), e) in (suc j, omega (arith, m), g)
 
-in_filter : {X : Type 0} (p : X → Bool) (xs : List X) (x : X) → Contains xs x → p x ≡ true → Contains (filter p xs) x
+pub in_filter : {X : Type 0} (p : X → Bool) (xs : List X) (x : X) → Contains xs x → p x ≡ true → Contains (filter p xs) x
 in_filter p [] x (k, l, e) h = absurd (omega (arith, l))
 in_filter {X} p (y ∷ xs) x (zero, l, e) h = by (p y) (ap p e ∙ h)
   where
@@ -107,7 +108,7 @@ module _ {P N : Type 0} (t : Table P N) (own : P) (n : N) where
 
 -- ---- targets of binders
 
-target_is : (b c : Ours) → split.same_target texts b c ≡ true → (b.path ≡ c.path) × (b.item ≡ c.item)
+pub target_is : (b c : Ours) → split.same_target texts b c ≡ true → (b.path ≡ c.path) × (b.item ≡ c.item)
 target_is b c e =
     let (path, item) = both_true (same_path b.path c.path) (bytes_eq b.item c.item) e in
     ((same_path-decides b.path c.path).0 path, (bytes_eq-Decides b.item c.item).0 item)
@@ -121,18 +122,18 @@ not_target b c e same = let f : not true ≡ true = ap not (sym (is_target b c s
 -- ---- a table by the binders of its module
 
 module _ (s : Scope Path Text) (is : List (Import Path Text)) (ds : List (Declaration Path Text)) (is_crowded : Bool) where
-  abbrev table : Table Path Text
+  abbrev pub table : Table Path Text
   table = record { path = s.own; imports = map (settled texts s) is; declarations = ds; alive = s.alive; is_crowded = is_crowded }
 
   -- the binders of the module are its declarations that bind a name, each of which aims at itself, and its imports
-  record AreBinders : Type 0 where
-    declared : (d : Declaration Path Text) (n : Text) → Contains ds d → d.name ≡ Some n
+  pub record AreBinders : Type 0 where
+    pub declared : (d : Declaration Path Text) (n : Text) → Contains ds d → d.name ≡ Some n
         → (b : Ours) × Contains s.binders b × (b.declares ≡ true) × (b.bound ≡ n) × (d.place ≡ split.place_at texts s n b.stands)
-    declares : (b : Ours) → Contains s.binders b → b.declares ≡ true
+    pub declares : (b : Ours) → Contains s.binders b → b.declares ≡ true
         → (d : Declaration Path Text) × Contains ds d × (d.name ≡ Some b.bound) × (d.place ≡ split.place_at texts s b.bound b.stands)
-    own : (b : Ours) → Contains s.binders b → b.declares ≡ true → (b.path ≡ s.own) × (b.item ≡ b.bound)
-    imports : (i : Import Path Text) → Contains is i → Contains s.binders (binder_of i)
-    imported : (b : Ours) → Contains s.binders b → b.declares ≡ false → (i : Import Path Text) × Contains is i × (binder_of i ≡ b)
+    pub own : (b : Ours) → Contains s.binders b → b.declares ≡ true → (b.path ≡ s.own) × (b.item ≡ b.bound)
+    pub imports : (i : Import Path Text) → Contains is i → Contains s.binders (binder_of i)
+    pub imported : (b : Ours) → Contains s.binders b → b.declares ≡ false → (i : Import Path Text) × Contains is i × (binder_of i ≡ b)
 
   module _ (n : Text) where
     abbrev look_up : Place → LookUp Path Text
@@ -493,12 +494,18 @@ module _ (s : Scope Path Text) where
         imported = importing;
       }
 
+-- the binders of a unit that stands at a path are those of its table
+pub binders_of : (own : Path) (u : UnitOf Text)
+    → AreBinders (scope_of own u) (imports own u) (declarations_from (scope_of own u) 0 (declarations_in u) (uses own u)) (crowded_if (split.has_split texts (binders_at own u)) u)
+binders_of own u =
+    let s : Scope Path Text = scope_of own u in
+    let ts : List (TreeOf Text) = declarations_in u in
+    let long : length (uses own u) ≡ length ts = length-map (pieces u) (map (use_of s (occurrences u))) ∙ cut_length ts _ in
+    are_binders s (imports own u) ts refl (uses own u) (crowded_if (split.has_split texts (binders_at own u)) u) long
+
 pub ask_as_themselves : ImportsAskAsThemselves
 ask_as_themselves own u i held at a =
     let s : Scope Path Text = scope_of own u in
-    let ts : List (TreeOf Text) = declarations_in u in
     let is_crowded : Bool = crowded_if (split.has_split texts (binders_at own u)) u in
-    let long : length (uses own u) ≡ length ts = length-map (pieces u) (map (use_of s (occurrences u))) ∙ cut_length ts _ in
-    let binders : AreBinders s (imports own u) (declarations_from s 0 ts (uses own u)) is_crowded = are_binders s (imports own u) ts refl (uses own u) is_crowded long in
-    let alike = asks_alike s (imports own u) (declarations_from s 0 ts (uses own u)) is_crowded binders (binder_of i) at a in
+    let alike = asks_alike s (imports own u) (declarations_from s 0 (declarations_in u) (uses own u)) is_crowded (binders_of own u) (binder_of i) at a in
     (alike.1, alike.0)

@@ -18,3 +18,4 @@ pub mod Tabling
 pub mod Looked
 pub mod Placed
 pub mod Askers
+pub mod Plain

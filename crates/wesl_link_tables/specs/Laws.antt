@@ -1,17 +1,18 @@
 -- Laws of declarations and of imports.
-use Rattle.std.specs.Prelude.{◌≡◌, ◌↔◌, Some, map, Contains}
+use Rattle.std.specs.Prelude.{◌≡◌, ◌↔◌, false, Some, map, Contains}
 use Rattle.wesl_tree_names.specs.Path.{Text, Path}
 use Rattle.wesl_tree_syntax.specs.Tree.{before, end, identifiers, kind, declarations}
 use Rattle.wesl_tree_syntax.specs.Unit.{UnitOf}
 use Rattle.wesl_scope_occurrences.specs.Pieces.{declarations_in}
 use Rattle.wesl_cond_choices.specs.declared.place.Place.{Place}
+use Rattle.wesl_link_symbols.specs.Laws.{HasOneTarget}
 use Rattle.wesl_link_symbols.specs.Names.{Answers}
 use Rattle.wesl_link_symbols.specs.declared.symbols.Answer.{Answer}
 use Rattle.wesl_link_symbols.specs.declared.symbols.Import.{Import}
 use Rattle.wesl_link_symbols.specs.declared.symbols.LookUp.{LookUp}
-use Rattle.wesl_link_split.specs.Split.{settled}
+use Rattle.wesl_link_split.specs.Split.{is_own_split, is_split, settled}
 use Rattle.wesl_link_tables.specs.Imports.{imports}
-use Rattle.wesl_link_tables.specs.Tables.{scope_of, table_at, uses}
+use Rattle.wesl_link_tables.specs.Tables.{binders_at, scope_of, table_at, uses}
 use Rattle.wesl_link_tables.specs.Uses.{use_name, texts}
 
 -- each identifier of a declaration stands once
@@ -30,3 +31,11 @@ ImportsAskAsThemselves =
     → (a : Answer Path Text)
     → Answers (table_at own u) (own_look_up own i.item (settled texts (scope_of own u) i).from) a
     ↔ Answers (table_at own u) (own_look_up own i.item i.place) a
+
+-- A name has one target in the table of a unit, and so conditions play no part in it, where its binders have one, dead ones
+-- counted, and that target is no name of the same module whose binders have several.
+abbrev pub PlainNamesHaveOneTarget : Type 0
+PlainNamesHaveOneTarget =
+    (own : Path) (u : UnitOf Text) (n : Text) → is_split texts (binders_at own u) n ≡ false
+    → ((i : Import Path Text) → Contains (imports own u) i → i.bound ≡ n → is_own_split texts (scope_of own u) i.path i.item ≡ false)
+    → HasOneTarget (table_at own u) n

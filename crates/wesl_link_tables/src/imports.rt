@@ -1,6 +1,6 @@
 //! What the imports of a module bind (WESL, "Imports").
 ghost use Rattle.std.specs.Prelude.{◌≡◌, ◌++◌, true, false, All, map, option_map, string_bytes, IfOk, OnOk};
-ghost use Rattle.wesl_tree_names.specs.Path.{path_view, is_relative, join};
+ghost use Rattle.wesl_tree_names.specs.Path.{path_view, extend, is_relative, join};
 ghost use Rattle.wesl_tree_syntax.specs.Tree.{before, end, forest_of};
 ghost use Rattle.wesl_tree_syntax.specs.View.{attribute_view, attributes_tree, content_view, entry_view, item_view, imports_tree};
 ghost use Rattle.wesl_link_tables.specs.Imports as imports;
@@ -36,6 +36,16 @@ impl<'a> Target<'a> {
             Target::Made(path) => path,
         }
     }
+
+    /// The path with these components behind it. What is written is lent where there are none.
+    fn entered(&self, alloc: Global, components: &[String]) -> Result<Target<'a>, AllocError>
+        ensures { IfOk result (λ t. target_path t ≡ extend (target_path self.now) (map string_bytes components.now)) }
+    {
+        match self {
+            Target::Written(path) if components.is_empty() => Ok(Target::Written(*path)),
+            _ => Ok(Target::Made(memory(self.path().join(alloc, components))?)),
+        }
+    }
 }
 
 /// Where the parts of an import statement lead.
@@ -55,7 +65,7 @@ impl<'a> Base<'a> {
         ensures { IfOk result (λ b. base_view b ≡ imports.entered (base_view self.now) (map string_bytes components.now)) }
     {
         match self {
-            Base::At(target) => Ok(made(memory(target.path().join(alloc, components))?)),
+            Base::At(target) => Ok(Base::At(target.entered(alloc, components)?)),
             Base::Nowhere => Ok(Base::Nowhere),
             Base::Unset => in_package(alloc, components),
         }

@@ -1,3 +1,14 @@
+pub use Rattle.wesl_tree_names.specs.Path
+pub use Rattle.wesl_tree_syntax.specs.Tree
+pub use Rattle.wesl_tree_syntax.specs.View
+pub use Rattle.wesl_mangle_forms.specs.Items
+pub use Rattle.wesl_mangle_forms.specs.Mangler
+pub use Rattle.wesl_mangle_forms.specs.Identifier
+pub use Rattle.wesl_mangle_forms.specs.Escape
+pub use Rattle.wesl_mangle_forms.specs.Unicode
+pub use Rattle.wesl_mangle_forms.specs.TypeText
+pub use Rattle.wesl_mangle_forms.specs.Laws
+pub use Rattle.wesl_mangle_forms.specs.Rows
 pub mod Held
 pub mod Kept
 pub mod Shown

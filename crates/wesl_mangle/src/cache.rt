@@ -3,7 +3,7 @@ ghost use Rattle.std.specs.Prelude.{◌≡◌, None, Some, true, IfOk, IfErr, On
 ghost use Rattle.wesl_tree_names.specs.Path.{Text, Path, path_view};
 ghost use Rattle.wesl_tree_names.specs.declared.errors.Error as error;
 ghost use Rattle.wesl_mangle_forms.specs.Items.{item_view, numbered};
-ghost use Rattle.wesl_mangle_forms.specs.Mangler.{written_if};
+ghost use Rattle.wesl_mangle_forms.specs.Mangler.{written_if, ReadsOn};
 ghost use Rattle.wesl_mangle.specs.Kept.{IsWritten, IsWrittenOrKept};
 ghost use Rattle.wesl_mangle.specs.Shown.{shown};
 
@@ -98,16 +98,15 @@ impl<M> CacheMangler<M> {
 }
 
 impl<M: Mangler> Mangler for CacheMangler<M> {
-    ghost use Rattle.wesl_mangle.specs.Held.{inner, record_of};
-    ghost use Rattle.wesl_mangle.specs.Kept.{option_or};
+    ghost use Rattle.wesl_mangle.specs.Held.{inner, item_in, record_of};
 
     ghost name_of = { λ s. M.name_of (inner s) };
 
     ghost recorded = { λ s. record_of s };
 
-    ghost writes = { true };
+    ghost writes = { λ _. true };
 
-    ghost item_of = { λ s name. option_or (record_of s name) (M.item_of (inner s) name) };
+    ghost item_of = { item_in M.item_of };
 
     ghost variant_of = { λ _ names item number types. Some (numbered item number) };
 
@@ -121,9 +120,13 @@ impl<M: Mangler> Mangler for CacheMangler<M> {
         ensures written { OnOk result (IsWritten true (M.name_of (inner self.old) (path_view path.now) item.now) (path_view path.now, item.now)
             (record_of self.old) (record_of self.new)) }
         ensures unwritten { OnErr result ((name : Text) → record_of self.new name ≡ record_of self.old name) }
-        ensures inner_written { OnOk result (IsWritten M.writes (M.name_of (inner self.old) (path_view path.now) item.now) (path_view path.now, item.now)
+        ensures reads { ReadsOn (M.name_of (inner self.old) (path_view path.now) item.now) (path_view path.now, item.now)
+            (item_in M.item_of self.old) (item_in M.item_of self.new) }
+        ensures inner_reads { ReadsOn (M.name_of (inner self.old) (path_view path.now) item.now) (path_view path.now, item.now)
+            (M.item_of (inner self.old)) (M.item_of (inner self.new)) }
+        ensures inner_written { OnOk result (IsWritten (M.writes (inner self.old)) (M.name_of (inner self.old) (path_view path.now) item.now) (path_view path.now, item.now)
             (M.recorded (inner self.old)) (M.recorded (inner self.new))) }
-        ensures inner_refused { OnErr result (IsWrittenOrKept M.writes (M.name_of (inner self.old) (path_view path.now) item.now) (path_view path.now, item.now)
+        ensures inner_refused { OnErr result (IsWrittenOrKept (M.writes (inner self.old)) (M.name_of (inner self.old) (path_view path.now) item.now) (path_view path.now, item.now)
             (M.recorded (inner self.old)) (M.recorded (inner self.new))) }
     {
         let mangled = self.mangler.mangle(alloc, path, item)?;

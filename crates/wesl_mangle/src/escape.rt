@@ -35,7 +35,7 @@ impl Mangler for EscapeMangler {
 
     ghost recorded = { λ _ name. None };
 
-    ghost writes = { false };
+    ghost writes = { λ _. false };
 
     ghost item_of = { λ _ name. unescape name };
 

@@ -1,5 +1,5 @@
 //! Names with a number.
-ghost use Rattle.std.specs.Prelude.{◌≡◌, ℕ, Some, None, false, IfOk, IfErr, string_bytes};
+ghost use Rattle.std.specs.Prelude.{◌≡◌, ℕ, Some, None, Ok, false, IfOk, IfErr, string_bytes};
 ghost use Rattle.wesl_tree_names.specs.Path.{Text, Path, path_view};
 ghost use Rattle.wesl_tree_names.specs.declared.errors.Error as error;
 ghost use Rattle.wesl_mangle_forms.specs.Items.{numbered};
@@ -43,7 +43,7 @@ impl<H: PathHash> Mangler for HashMangler<H> {
 
     ghost recorded = { λ _ name. None };
 
-    ghost writes = { false };
+    ghost writes = { λ _. false };
 
     ghost item_of = { λ _ name. None };
 
@@ -59,7 +59,10 @@ impl<H: PathHash> Mangler for HashMangler<H> {
         number_item(alloc, item, hash)
     }
 
-    fn unmangle(&self, _: Global, _: &str) -> Result<Option<(ModulePath, String)>, Error> {
+    /// No name is read as an item. It takes no memory.
+    fn unmangle(&self, _: Global, _: &str) -> Result<Option<(ModulePath, String)>, Error>
+        ensures { result ≡ Ok None }
+    {
         Ok(None)
     }
 

@@ -4,12 +4,11 @@
 mod cache;
 mod escape;
 mod hash;
+pub mod laws;
 mod unicode;
 
 pub use cache::CacheMangler;
 pub use escape::EscapeMangler;
 pub use hash::{HashMangler, PathHash};
 pub use unicode::UnicodeMangler;
-pub use wesl_mangle_forms::{
-    Mangler, NoMangler, escape_round_trip, escape_rows, unicode_round_trip, unicode_rows,
-};
+pub use wesl_mangle_forms::{Mangler, NoMangler};

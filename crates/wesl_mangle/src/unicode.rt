@@ -20,7 +20,7 @@ impl Mangler for UnicodeMangler {
 
     ghost recorded = { λ _ name. None };
 
-    ghost writes = { false };
+    ghost writes = { λ _. false };
 
     ghost item_of = { λ _ name. from_unicode name };
 

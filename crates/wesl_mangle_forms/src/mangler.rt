@@ -1,12 +1,12 @@
 //! What names an item of a module in a linked unit.
-ghost use Rattle.std.specs.Prelude.{◌≡◌, ℕ, List, length, map, Option, Some, None, true, Bool, false, IfOk, IfErr, OnOk, OnErr, option_map, string_bytes};
+ghost use Rattle.std.specs.Prelude.{◌≡◌, ℕ, List, length, map, Option, Some, None, Ok, true, Bool, false, IfOk, IfErr, OnOk, OnErr, option_map, string_bytes};
 ghost use Rattle.wesl_tree_names.specs.Path.{Text, Path, path_view};
 ghost use Rattle.std.specs.List.{list_all};
 ghost use Rattle.wesl_tree_syntax.specs.Tree.{Tree, tree_below};
 ghost use Rattle.wesl_tree_syntax.specs.View.{type_view};
 ghost use Rattle.wesl_tree_names.specs.declared.errors.Error as error;
 ghost use Rattle.wesl_mangle_forms.specs.Items.{item_view, numbered, IsRefusedVariant};
-ghost use Rattle.wesl_mangle_forms.specs.Mangler.{written_if};
+ghost use Rattle.wesl_mangle_forms.specs.Mangler.{written_if, ReadsOn};
 
 use crate::numbered::{number_item, told};
 use std::alloc::Global;
@@ -16,7 +16,8 @@ use wesl_tree_syntax::TypeExpression;
 /// Names the items of modules (WESL, "NameMangling").
 ///
 /// The name of an item is fixed: no call changes it. A mangler may keep a record of the names that it
-/// gave and of the items that they were given for; it then writes each name that it gives.
+/// gave and of the items that they were given for; it then writes each name that it gives. A call changes
+/// nothing of what a name is read as, but that the name which it gives may from then on be read as the item.
 pub trait Mangler {
     // the name of an item of a module
     ghost name_of: { Self → Path → Text → Text };
@@ -25,7 +26,7 @@ pub trait Mangler {
     ghost recorded: { Self → Text → Option (Path × Text) };
 
     // whether each name that is given is written into the record
-    ghost writes: { Bool };
+    ghost writes: { Self → Bool };
 
     // the item that a name is read as
     ghost item_of: { Self → Text → Option (Path × Text) };
@@ -42,8 +43,10 @@ pub trait Mangler {
         ensures refused { IfErr result (λ e. e ≡ error.Memory) }
         ensures same { (p : Path) (i : Text) → name_of self.new p i ≡ name_of self.old p i }
         ensures written { OnOk result ((name : Text) → recorded self.new name
-            ≡ written_if writes (name_of self.old (path_view path.now) item.now) (path_view path.now, item.now) (recorded self.old) name) }
+            ≡ written_if (writes self.old) (name_of self.old (path_view path.now) item.now) (path_view path.now, item.now) (recorded self.old) name) }
         ensures unwritten { OnErr result ((name : Text) → recorded self.new name ≡ recorded self.old name) }
+        ensures same_writing { writes self.new ≡ writes self.old }
+        ensures reads { ReadsOn (name_of self.old (path_view path.now) item.now) (path_view path.now, item.now) (item_of self.old) (item_of self.new) }
         ensures same_variants { (names : List Text) (i : Text) (n : ℕ) (ts : List Tree) → variant_of self.new names i n ts ≡ variant_of self.old names i n ts };
 
     /// The item that `mangled` is read as, where it is read as one. Refused for want of memory alone.
@@ -74,11 +77,46 @@ impl<T: Mangler> Mangler for Box<T> {
 
     ghost recorded = { λ b. T.recorded b.value };
 
-    ghost writes = { T.writes };
+    ghost writes = { λ b. T.writes b.value };
 
     ghost item_of = { λ b. T.item_of b.value };
 
     ghost variant_of = { λ b. T.variant_of b.value };
+
+    fn mangle(&mut self, alloc: Global, path: &ModulePath, item: &str) -> Result<String, Error> {
+        (**self).mangle(alloc, path, item)
+    }
+
+    fn unmangle(
+        &self,
+        alloc: Global,
+        mangled: &str,
+    ) -> Result<Option<(ModulePath, String)>, Error> {
+        (**self).unmangle(alloc, mangled)
+    }
+
+    fn mangle_types(
+        &self,
+        alloc: Global,
+        names: &Names,
+        item: &str,
+        variant: u32,
+        types: &[TypeExpression],
+    ) -> Result<String, Error> {
+        (**self).mangle_types(alloc, names, item, variant, types)
+    }
+}
+
+impl Mangler for Box<dyn Mangler + Drop> {
+    ghost name_of = { λ b. (Mangler-box b).name_of b.value };
+
+    ghost recorded = { λ b. (Mangler-box b).recorded b.value };
+
+    ghost writes = { λ b. (Mangler-box b).writes b.value };
+
+    ghost item_of = { λ b. (Mangler-box b).item_of b.value };
+
+    ghost variant_of = { λ b. (Mangler-box b).variant_of b.value };
 
     fn mangle(&mut self, alloc: Global, path: &ModulePath, item: &str) -> Result<String, Error> {
         (**self).mangle(alloc, path, item)
@@ -109,7 +147,7 @@ impl<T: Mangler> Mangler for &mut T {
 
     ghost recorded = { λ r. T.recorded r.now };
 
-    ghost writes = { T.writes };
+    ghost writes = { λ r. T.writes r.now };
 
     ghost item_of = { λ r. T.item_of r.now };
 
@@ -148,7 +186,7 @@ impl Mangler for NoMangler {
 
     ghost recorded = { λ _ name. None };
 
-    ghost writes = { false };
+    ghost writes = { λ _. false };
 
     ghost item_of = { λ _ name. None };
 
@@ -158,7 +196,10 @@ impl Mangler for NoMangler {
         told(String::from_str(alloc, item))
     }
 
-    fn unmangle(&self, _: Global, _: &str) -> Result<Option<(ModulePath, String)>, Error> {
+    /// No name is read as an item. It takes no memory.
+    fn unmangle(&self, _: Global, _: &str) -> Result<Option<(ModulePath, String)>, Error>
+        ensures { result ≡ Ok None }
+    {
         Ok(None)
     }
 

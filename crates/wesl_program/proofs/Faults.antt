@@ -1,11 +1,12 @@
 -- The fault of a module that is refused is none of the bundle that holds it.
 use Rattle.std.specs.Option.{option_map}
-use Rattle.std.specs.Prelude.{string_bytes}
+use Rattle.std.specs.Prelude.{if◌then◌else◌, string_bytes}
 use Rattle.std.proofs.Common.{◌≡◌, ◌⊎◌, ℕ, List, Bool, true, false, true≢false, Option, Some, None, Result, Ok, Err, bytes_eq, codes, refl, sym, ap, ◌∙◌, subst, inl, inr}
 use Rattle.serde_json.specs.Data.{Data}
 use Rattle.wesl_tree_syntax.specs.Unit.{UnitOf}
 use Rattle.wesl_tree_names.specs.Path.{Text, Path}
-use Rattle.wesl_tree_names.specs.Errors.{IsModuleNotFound, IsRefusedWith, OrMemory, error_of_resolve}
+use Rattle.wesl_tree_names.specs.Errors.{IsModuleNotFound, IsRefusedWith, OrMemory, error_of_resolve, is_memory, resolver_is_memory}
+use Rattle.wesl_tree_names.specs.declared.errors.Diagnostic.{Diagnostic, out-Diagnostic}
 use Rattle.wesl_tree_names.specs.declared.errors.Error as error
 use Rattle.wesl_tree_base.specs.declared.faults.CondCompError.{CondCompError}
 use Rattle.wesl_tree_base.specs.declared.faults.CondCompError.TheVariants as cond
@@ -18,6 +19,7 @@ use Rattle.wesl_tree.specs.declared.unit.TranslationUnit.{TranslationUnit}
 use Rattle.wesl_json.specs.UnitTexts.{IsTreeFault}
 use Rattle.wesl_json_read.specs.Faults.{place_of}
 use Rattle.wesl_cond.specs.Conditioned.{IsHandedOn, IsRefusedBy}
+use Rattle.wesl_cond.proofs.HandedOn.{refused_tells}
 use Rattle.wesl_link.specs.Conditions.{RefusesLeft}
 use Rattle.wesl_link.specs.Linking.{RefusesLink, hands_left, refuses_left}
 use Rattle.wesl_program.specs.Fault as told
@@ -36,6 +38,7 @@ use Rattle.wesl_program.specs.Refused.{IsLinkFault}
 use Rattle.wesl_link_reach.specs.World.{Task}
 use Rattle.wesl_link_reach.specs.Faults as standing
 use Rattle.wesl_link_engine.specs.Refusal.{TellsOfImport, TellsOf}
+use Rattle.wesl_link_engine.proofs.Refusing.{error_told}
 use Rattle.wesl_link_engine.specs.Worlds as worlds
 
 -- memory was refused, or a module is at fault and not the bundle
@@ -98,25 +101,27 @@ tells-condition names (error.BadTree place) f h = absurd h
 tells-condition names (error.BadBundle place) f h = absurd h
 tells-condition names error.Memory f h = absurd h
 
-refused-by : (features : Option Features) (given : TranslationUnit) (e : error.Error) → IsRefusedBy features (unit_view given) e → (e ≡ error.Memory → ⊥) → IsOfModules (fault_of e)
-refused-by None given e h other = absurd h
-refused-by (Some features) given e (inl h) other = absurd (other h.0)
-refused-by (Some features) given e (inr h) other = tells-condition _ e h.0 h.2
+refused-by : (features : Option Features) (given : TranslationUnit) (e : error.Error) → IsRefusedBy features (unit_view given) e → is_memory e ≡ false → IsOfModules (fault_of e)
+refused-by features given e h other = elim (refused_tells features (unit_view given) e h) [
+  | inl memory ↦ absurd (true≢false (sym (ap is_memory memory) ∙ other))
+  | inr told ↦ tells-condition told.0 e told.1 told.2
+]
 
 -- one refusal deeper, as a fault of a condition is handed on
-handed-on : (features : Option Features) (given : TranslationUnit) (e : error.Error) → IsHandedOn (IsRefusedBy features (unit_view given)) e → (e ≡ error.Memory → ⊥) → IsOfModules (fault_of e)
-handed-on features given e (fault, by, inl memory) other = absurd (other memory)
+handed-on : (features : Option Features) (given : TranslationUnit) (e : error.Error) → IsHandedOn (IsRefusedBy features (unit_view given)) e → is_memory e ≡ false → IsOfModules (fault_of e)
+handed-on features given e (fault, by, inl memory) other = absurd (true≢false (sym (ap is_memory memory) ∙ other))
 handed-on features given e (fault, by, inr held) other =
     subst (λ x. IsOfModules (fault_of x)) (sym held.1) (refused-with _ (λ inner f. refused-by features given inner (subst (IsRefusedBy features (unit_view given)) (sym f.0) by) f.1) held.0 held.2)
 
-left : (features : Option Features) (hands : UnitOf Text → Type 0) (e : resolve_error.ResolveError) → RefusesLeft features hands e → IsOfModules (fault_of_resolver e)
-left features hands e h = refused-with _ (λ fault f. handed-on features h.0 fault f.0 f.1) e h.2
+left : (features : Option Features) (hands : UnitOf Text → Type 0) (p : Path) (e : resolve_error.ResolveError) → RefusesLeft features hands p e → IsOfModules (fault_of_resolver e)
+left features hands p e h = refused-with _ (λ fault f. handed-on features h.0 fault f.0 f.1) e h.2.2.0
+
+wrapped-unless : (is_wanting : Bool) (e : resolve_error.ResolveError) → IsOfModules (fault_of_resolver e) → IsModuleFault (if is_wanting then error.Memory else error.Import (import_error.ResolveError e))
+wrapped-unless true e h = inl refl
+wrapped-unless false e h = inr h
 
 wrapped : (e : resolve_error.ResolveError) → IsOfModules (fault_of_resolver e) → IsModuleFault (error_of_resolve e)
-wrapped (resolve_error.Error' at inner declaration place display span source) h = inr h
-wrapped (resolve_error.ModuleNotFound q text) h = inr h
-wrapped (resolve_error.FileNotFound file text) h = inr h
-wrapped resolve_error.Memory h = inl refl
+wrapped e h = wrapped-unless (resolver_is_memory e) e h
 
 or-memory : (P : resolve_error.ResolveError → Type 0) → ((e : resolve_error.ResolveError) → P e → IsOfModules (fault_of_resolver e)) → (e : resolve_error.ResolveError) → OrMemory P e → IsModuleFault (error_of_resolve e)
 or-memory P of e (inl is) = subst (λ x. IsModuleFault (error_of_resolve x)) (sym is) (inl refl)
@@ -149,23 +154,24 @@ module _ (hands : Path → UnitOf Text → Type 0) (refuses : Path → resolve_e
   standing-is-of-modules (error.BadBundle place) h = absurd h
 
 module _ (hands : Path → UnitOf Text → Type 0) (refuses : Path → resolve_error.ResolveError → Type 0) (features : Option Features) (of : (p : Path) (e : resolve_error.ResolveError) → refuses p e → IsOfModules (fault_of_resolver e)) where
-  either : (p : Path) (e : resolve_error.ResolveError) → refuses p e ⊎ RefusesLeft features (hands p) e → IsOfModules (fault_of_resolver e)
+  either : (p : Path) (e : resolve_error.ResolveError) → refuses p e ⊎ RefusesLeft features (hands p) p e → IsOfModules (fault_of_resolver e)
   either p e (inl h) = of p e h
-  either p e (inr h) = left features (hands p) e h
+  either p e (inr h) = left features (hands p) p e h
 
-  link-is-of-modules : (p : Path) (keep : List Text) (is_eager : Bool) (limit : ℕ) (e : error.Error) → RefusesLink (hands_left hands refuses features) (refuses_left hands refuses features) p keep is_eager limit e → IsModuleFault e
-  link-is-of-modules p keep is_eager limit e (inl h) = subst IsModuleFault (sym h.2) (or-memory _ (either p) h.0 h.1)
-  link-is-of-modules p keep is_eager limit e (inr h) = standing-is-of-modules _ _ either h.0 _ limit e h.2
+  link-is-of-modules : (p : Path) (keep : List Text) (is_eager : Bool) (limit : ℕ) (d : Diagnostic) → RefusesLink (hands_left hands refuses features) (refuses_left hands refuses features) p keep is_eager limit d
+      → IsModuleFault (out-Diagnostic d).error
+  link-is-of-modules p keep is_eager limit d (inl h) = subst IsModuleFault (sym (ap (λ r. r.error) h.2)) (or-memory _ (either p) h.0 h.1)
+  link-is-of-modules p keep is_eager limit d (inr h) = standing-is-of-modules _ _ either h.0 _ limit (out-Diagnostic d).error (error_told _ d h.2)
 
 -- a fault of a link of a bundle
-pub bundle-fault : (b : Bundle) (features : Option Features) → AreFeatures b features → (e : error.Error)
-    → RefusesLink (handed_left b features) (refused_left b features) b.root b.keep b.options.eager b.options.max_modules e → IsLinkFault b e
-bundle-fault b features are e h =
-    by (link-is-of-modules (handed b) (refused b) features (λ p x. refused_found p (found b.packages b.modules p) x) b.root b.keep b.options.eager b.options.max_modules e h)
+pub bundle-fault : (b : Bundle) (features : Option Features) → AreFeatures b features → (d : Diagnostic)
+    → RefusesLink (handed_left b features) (refused_left b features) b.root b.keep b.options.eager b.options.max_modules d → IsLinkFault b (out-Diagnostic d).error
+bundle-fault b features are d h =
+    by (link-is-of-modules (handed b) (refused b) features (λ p x. refused_found p (found b.packages b.modules p) x) b.root b.keep b.options.eager b.options.max_modules d h)
   where
-    by : IsModuleFault e → IsLinkFault b e
+    by : IsModuleFault (out-Diagnostic d).error → IsLinkFault b (out-Diagnostic d).error
     by (inl is) = inl is
-    by (inr of) = inr (of, (e, inl (features, are, h), refl))
+    by (inr of) = inr (of, ((out-Diagnostic d).error, inl (features, are, (d, refl, h)), refl))
 
 -- ---- faults of a unit
 

@@ -2,7 +2,7 @@
 use Rattle.std.proofs.Common.{◌≡◌, ℕ, Bool, List, Option, None, Result, subst}
 use Rattle.serde_json.specs.Data.{Data}
 use Rattle.wesl_tree_names.specs.Path.{Text, Path}
-use Rattle.wesl_tree_names.specs.declared.errors.Error as error
+use Rattle.wesl_tree_names.specs.declared.errors.Diagnostic.{Diagnostic, out-Diagnostic}
 use Rattle.wesl_tree_names.specs.declared.errors.ResolveError.{ResolveError}
 use Rattle.wesl_tree.specs.Translation.{unit_view}
 use Rattle.wesl_tree_syntax.specs.Unit.{UnitOf}
@@ -48,11 +48,11 @@ module _ {S : Type 0} (hands_of : S → Path → UnitOf Text → Type 0) (refuse
       (subst (λ p. IsLinkFound name_of (hands s) (refuses s) (name_of m) p keep is_eager limit empty link) path
       (subst (λ r. IsLinkFound name_of (hands s) (refuses s) (name_of m) at keep is_eager limit r link) none h))))
 
-  pub refuses-from : (e : error.Error) → RefusesLink (hands s) (refuses s) at keep is_eager limit e → RefusesLink (hands t) (refuses t) root named is_eager limit e
-  refuses-from e h =
-      subst (λ ks. RefusesLink (hands t) (refuses t) root ks is_eager limit e) keeps
-      (subst (λ x. RefusesLink (hands x) (refuses x) root keep is_eager limit e) same
-      (subst (λ p. RefusesLink (hands s) (refuses s) p keep is_eager limit e) path h))
+  pub refuses-from : (d : Diagnostic) → RefusesLink (hands s) (refuses s) at keep is_eager limit d → RefusesLink (hands t) (refuses t) root named is_eager limit d
+  refuses-from d h =
+      subst (λ ks. RefusesLink (hands t) (refuses t) root ks is_eager limit d) keeps
+      (subst (λ x. RefusesLink (hands x) (refuses x) root keep is_eager limit d) same
+      (subst (λ p. RefusesLink (hands s) (refuses s) p keep is_eager limit d) path h))
 
 module _ (b : Bundle) (features : Option Features) (are : AreFeatures b features) (at : Path → Result Data Text) (same : (p : Path) → at p ≡ found b.packages b.modules p) (keep : List Text) (is : keep ≡ b.keep) where
   here : at ≡ found b.packages b.modules
@@ -76,12 +76,12 @@ module _ (b : Bundle) (features : Option Features) (are : AreFeatures b features
   )
 
   -- the fault of such a link
-  pub fault-from : (e : error.Error)
-      → RefusesLink (hands_left (hands_of at) (refuses_of at) features) (refuses_left (hands_of at) (refuses_of at) features) b.root keep b.options.eager b.options.max_modules e → IsLinkFault b e
-  fault-from e h =
-      bundle-fault b features are e
-      (subst (λ f. RefusesLink (hands_left (hands_of f) (refuses_of f) features) (refuses_left (hands_of f) (refuses_of f) features) b.root b.keep b.options.eager b.options.max_modules e) here
-      (subst (λ ks. RefusesLink (hands_left (hands_of at) (refuses_of at) features) (refuses_left (hands_of at) (refuses_of at) features) b.root ks b.options.eager b.options.max_modules e) is h))
+  pub fault-from : (d : Diagnostic)
+      → RefusesLink (hands_left (hands_of at) (refuses_of at) features) (refuses_left (hands_of at) (refuses_of at) features) b.root keep b.options.eager b.options.max_modules d → IsLinkFault b (out-Diagnostic d).error
+  fault-from d h =
+      bundle-fault b features are d
+      (subst (λ f. RefusesLink (hands_left (hands_of f) (refuses_of f) features) (refuses_left (hands_of f) (refuses_of f) features) b.root b.keep b.options.eager b.options.max_modules d) here
+      (subst (λ ks. RefusesLink (hands_left (hands_of at) (refuses_of at) features) (refuses_left (hands_of at) (refuses_of at) features) b.root ks b.options.eager b.options.max_modules d) is h))
 
 -- what is made is a unit to which the bundle's modules link, and what is recorded of them
 abbrev LinksBundle : Bundle → Mapped → Type 0

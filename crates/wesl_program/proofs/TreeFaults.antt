@@ -1,9 +1,10 @@
 -- Faults of trees.
-use Rattle.std.proofs.Common.{◌≡◌, ◌⊎◌, ◌∙◌, refl, sym, subst, inl, inr, string_bytes}
+use Rattle.std.proofs.Common.{◌≡◌, ◌⊎◌, ◌∙◌, refl, sym, ap, subst, inl, inr, string_bytes}
+use Rattle.std.proofs.lemmas.Bool.{false≢true}
 use Rattle.serde_json.specs.Data.{Data}
 use Rattle.wesl_tree_names.specs.declared.errors.Error as error
 use Rattle.wesl_tree_names.specs.declared.errors.ResolveError as resolve_error
-use Rattle.wesl_tree_names.specs.Errors.{IsRefusedFor, IsRefusedWith, OrMemory}
+use Rattle.wesl_tree_names.specs.Errors.{IsRefusedFor, IsRefusedWith, OrMemory, is_memory}
 use Rattle.wesl_json_form.specs.Units.{IsBrokenUnit, IsNoUnit}
 use Rattle.wesl_json_read.specs.Faults.{IfPlace}
 use Rattle.wesl_json.specs.UnitTexts.{IsTreeFault}
@@ -22,5 +23,5 @@ wider so resolve_error.Memory h = absurd h
 -- the refusal for a fault of a tree
 pub refused-with : (d : Data) (f : error.Error) (e : resolve_error.ResolveError) → (f ≡ error.Memory) ⊎ IsTreeFault d f → OrMemory (IsRefusedFor (λ g. g ≡ f)) e → OrMemory (IsRefusedWith (IsTreeFault d)) e
 refused-with d f e fault (inl memory) = inl memory
-refused-with d f e (inl memory) (inr h) = inr (wider (λ g is. absurd (is.1 (is.0 ∙ memory))) e h)
+refused-with d f e (inl memory) (inr h) = inr (wider (λ g is. absurd (false≢true (sym is.1 ∙ ap is_memory (is.0 ∙ memory)))) e h)
 refused-with d f e (inr fault) (inr h) = inr (wider (λ g is. subst (IsTreeFault d) (sym is.0) fault) e h)

@@ -1,6 +1,7 @@
 -- What is linked of a bundle.
 use Rattle.std.specs.Prelude.{◌≡◌, ℕ, List, Option, None, true, option_map}
 use Rattle.wesl_tree_names.specs.Path.{Text, Path}
+use Rattle.wesl_tree_names.specs.declared.errors.Diagnostic.{Diagnostic, out-Diagnostic}
 use Rattle.wesl_tree_names.specs.declared.errors.Error as error
 use Rattle.wesl_tree_names.specs.declared.errors.ResolveError.{ResolveError}
 use Rattle.wesl_tree_syntax.specs.Unit.{UnitOf, UnitView}
@@ -62,8 +63,8 @@ LinksTo b w u =
 abbrev pub recorded_for : Bundle → List worlds.Module → Record
 recorded_for b w = all_written true (writes (named_by b.options.mangler) b.options.mangle_root w) (λ name. None)
 
--- such a link is refused with the error, which stands
+-- such a link is refused with a diagnostic of the error, which stands
 abbrev pub IsLinkRefused : Bundle → error.Error → Type 0
 IsLinkRefused b e =
     (features : Option Features) × AreFeatures b features
-    × RefusesLink (handed_left b features) (refused_left b features) b.root b.keep b.options.eager b.options.max_modules e
+    × ((d : Diagnostic) × ((out-Diagnostic d).error ≡ e) × RefusesLink (handed_left b features) (refused_left b features) b.root b.keep b.options.eager b.options.max_modules d)

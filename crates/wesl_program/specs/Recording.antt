@@ -5,7 +5,7 @@ use Rattle.wesl_tree_names.specs.declared.path.ModulePath.{ModulePath}
 use Rattle.wesl_tree_names.specs.declared.errors.Diagnostic.{Diagnostic}
 use Rattle.wesl_cond_features.specs.declared.features.Features.{Features}
 use Rattle.wesl_resolve_base.specs.declared.resolver.Resolver as Resolver
-use Rattle.wesl_link.specs.Linking.{TellsRefusalLeft, hands_left, refuses_left}
+use Rattle.wesl_link.specs.Linking.{RefusesLinkLeft, hands_left, refuses_left}
 use Rattle.wesl_link.specs.Mapping.{IsLinkFound}
 use Rattle.wesl_link.specs.declared.mapped.FoundLink.{FoundLink}
 use Rattle.wesl_program_bundle.specs.declared.options.Options.{Options}
@@ -23,6 +23,6 @@ module _ {R : Type 0} (g : Resolver.Ghosts R) (resolver : R) (features : Option 
       IsLinkFound given_by (hands_left (g.hands resolver) (g.refuses resolver) features) (refuses_left (g.hands resolver) (g.refuses resolver) features)
       (named_by options.mangler) (path_view root) keep options.eager options.max_modules (λ name. None) found
 
-  -- the error of the diagnostic tells why such a link is refused
+  -- the diagnostic tells why such a link is refused
   abbrev pub RefusesToRecord : Diagnostic → Type 0
-  RefusesToRecord = TellsRefusalLeft (g.hands resolver) (g.refuses resolver) features root keep options.eager options.max_modules
+  RefusesToRecord = RefusesLinkLeft (g.hands resolver) (g.refuses resolver) features (path_view root) keep options.eager options.max_modules

@@ -1,5 +1,5 @@
 //! From a bundle to what is found of its link, and from that to what is answered of the linked unit.
-ghost use Rattle.std.specs.Prelude.{◌≡◌, map, false, string_bytes, IfOk, IfErr};
+ghost use Rattle.std.specs.Prelude.{◌≡◌, map, false, string_bytes, IfOk, IfErr, option_copied};
 ghost use Rattle.wesl_tree_base.specs.Borrowed.{texts};
 ghost use Rattle.wesl_tree_names.specs.Path.{path_view, is_relative};
 ghost use Rattle.wesl_tree_names.specs.declared.errors.Diagnostic.{out-Diagnostic};
@@ -18,7 +18,7 @@ use crate::naming::BundleMangler;
 use crate::validity::check_valid;
 use std::alloc::{AllocError, Global};
 use wesl_cond_features::Features;
-use wesl_link::{FoundLink, find_mapped};
+use wesl_link::{FoundLink, LinkRequest, find_mapped};
 use wesl_program_bundle::{BuiltinNames, Bundle, BundleModule, Options, Package};
 use wesl_program_packages::HeldPackages;
 use wesl_resolve_base::Resolver;
@@ -60,7 +60,7 @@ pub(crate) fn find(alloc: Global, bundle: Bundle) -> Result<Found, Diagnostic>
         builtins,
     } = bundle;
     let sources = sources_of(alloc, modules, packages)?;
-    match find_recorded(alloc, &keep, root, sources, &features, options) {
+    match find_recorded(alloc, &keep, root, sources, features.as_ref(), options) {
         Ok(link) => Ok(Found {
             link,
             mangle_root: options.mangle_root,
@@ -77,26 +77,26 @@ fn find_recorded<R: Resolver + Drop>(
     keep: &[String],
     root: ModulePath,
     resolver: R,
-    features: &Option<Features>,
+    features: Option<&Features>,
     options: Options,
 ) -> Result<FoundLink<BundleMangler>, Diagnostic>
     requires ready { R.ready resolver }
     requires asked { is_relative (path_view root) ≡ false }
-    ensures found { IfOk result (FindsUnrecorded R.Resolver resolver features.now root (map string_bytes keep.now) options) }
-    ensures refused { IfErr result (RefusesToRecord R.Resolver resolver features.now root (map string_bytes keep.now) options) }
+    ensures found { IfOk result (FindsUnrecorded R.Resolver resolver (option_copied features.entry) root (map string_bytes keep.now) options) }
+    ensures refused { IfErr result (RefusesToRecord R.Resolver resolver (option_copied features.entry) root (map string_bytes keep.now) options) }
 {
     let keep = names(alloc, keep)?;
     let naming = BundleMangler {
         naming: options.mangler,
     };
-    find_mapped(
-        alloc,
-        &keep,
-        options.eager,
-        SourceMapper::new(alloc, root, resolver, naming),
-        features,
-        options.max_modules,
-    )
+    let mapper = SourceMapper::new(alloc, root.try_clone(alloc)?, resolver, naming);
+    let request = LinkRequest {
+        root: &root,
+        keep: &keep,
+        is_eager: options.eager,
+        max_modules: options.max_modules,
+    };
+    find_mapped(alloc, &request, mapper, features)
 }
 
 /// The unit that is linked of what was found, whether its names clash, and what they stand for: the names of the modules' items

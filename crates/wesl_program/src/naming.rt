@@ -22,7 +22,7 @@ impl Mangler for BundleMangler {
 
     ghost recorded = { λ _ name. None };
 
-    ghost writes = { false };
+    ghost writes = { λ _. false };
 
     ghost item_of = { λ m. read_by m.naming };
 

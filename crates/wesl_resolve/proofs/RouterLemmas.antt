@@ -5,7 +5,7 @@ use Rattle.std.proofs.lemmas.Option.{get_or_from_slice_get, none-some, same_Some
 use Rattle.std.specs.Str.{bytes_eq}
 use Rattle.wesl_tree_names.specs.Path.{Text, Path, path_view, starts_with, same_origin, components_begin}
 use Rattle.wesl_tree_names.specs.declared.path.ModulePath.{ModulePath}
-use Rattle.wesl_resolve.specs.Router.{prefix_length, Takes, TakenByNone, Routed, NoRoute, AllReady, LeavesOthers}
+use Rattle.wesl_resolve.specs.Router.{prefix_length, Takes, TakenByNone, Routed, NoRoute, AllReady, KeepsEach, LeavesOthers}
 use Rattle.wesl_resolve.proofs.RouteLemmas.{Holds-set, Holds-before, Routed-held, TakenByNone-held, set-cases, set-others}
 use Rattle.std.specs.Vec.{with_item}
 use Rattle.wesl_tree_syntax.specs.Unit.{UnitOf}
@@ -159,6 +159,46 @@ module _ {B : Type 0} (ready : B → Type 0) where
         mounted = λ k x at. ⊎_elim (λ before. all.mounted k x before) (λ e. subst Is e here) (pushed-cases mounts m x k at);
         beside = all.beside;
       })
+
+module _ {B : Type 0} (Same : B → B → Type 0) (itself : (b : B) → Same b b) where
+  stands-still : (mounts : List (ModulePath × B)) (k : ℕ) (m after : ModulePath × B) → slice_get mounts k ≡ Some m → slice_get mounts k ≡ Some after → Same m.1 after.1
+  stands-still mounts k m after at at_after =
+      let To : ModulePath × B → Type 0 = λ x. Same m.1 x.1 in
+      subst To (same_Some m after (sym at ∙ at_after)) (itself m.1)
+
+  beside-still : (fallback : Option B) (b after : B) → fallback ≡ Some b → fallback ≡ Some after → Same b after
+  beside-still fallback b after at at_after = subst (Same b) (same_Some b after (sym at ∙ at_after)) (itself b)
+
+  -- one mount was asked, and stands so to what it was
+  pub KeepsEach-set : (mounts : List (ModulePath × B)) (fallback : Option B) (place : ℕ) (m : ModulePath × B) (b : B) → slice_get mounts place ≡ Some m → Same m.1 b
+      → KeepsEach Same mounts fallback (set mounts place (m.0, b)) fallback
+  KeepsEach-set mounts fallback place m b there same =
+      record {
+        mounted = λ k x after at at_after.
+            ⊎_elim
+            (λ here.
+            let is_m : m ≡ x = same_Some m x (sym there ∙ ap (slice_get mounts) (sym here.0) ∙ at) in
+            let To : ModulePath × B → Type 0 = λ y. Same x.1 y.1 in
+            let From : ModulePath × B → Type 0 = λ y. Same y.1 b in
+            subst To (sym here.1) (subst From is_m same))
+            (λ kept. stands-still mounts k x after at kept)
+            (set-cases mounts place k (m.0, b) after at_after);
+        beside = beside-still fallback;
+      }
+
+  -- the fallback was asked, and stands so to what it was
+  pub KeepsEach-fallback : (mounts : List (ModulePath × B)) (fallback : Option B) (a b : B) → fallback ≡ Some a → Same a b → KeepsEach Same mounts fallback mounts (Some b)
+  KeepsEach-fallback mounts fallback a b is same =
+      record {
+        mounted = stands-still mounts;
+        beside = λ x after at at_after.
+            let From : B → Type 0 = λ y. Same y b in
+            subst (Same x) (same_Some b after at_after) (subst From (same_Some a x (sym is ∙ at)) same);
+      }
+
+  -- nothing was asked
+  pub KeepsEach-same : (mounts : List (ModulePath × B)) (fallback : Option B) → KeepsEach Same mounts fallback mounts fallback
+  KeepsEach-same mounts fallback = record { mounted = stands-still mounts; beside = beside-still fallback }
 
 module _ {B : Type 0} (hands : B → Path → UnitOf Text → Type 0) (refuses : B → Path → ResolveError → Type 0) (source : B → Path → Text → Type 0) (lacks : B → Path → ResolveError → Type 0) (shown : B → Path → Option Text → Type 0) where
   -- one mount was asked, and means what it did

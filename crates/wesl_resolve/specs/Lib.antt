@@ -1,3 +1,11 @@
+pub use Rattle.wesl_tree_names.specs.Path
+pub use Rattle.wesl_tree_names.specs.Errors
+pub use Rattle.wesl_tree_syntax.specs.Unit
+pub use Rattle.wesl_tree.specs.Translation
+pub use Rattle.wesl_resolve_base.specs.Resolver
+pub use Rattle.wesl_resolve_base.specs.Refusals
+pub use Rattle.wesl_resolve_base.specs.UnitText
+pub use Rattle.wesl_resolve_base.specs.Packages
 pub mod Preprocessor
 pub mod Router
 pub mod Texts

@@ -48,3 +48,8 @@ pub record LeavesOthers {B : Type 0} (p : Path) (mounts : List (ModulePath × B)
 pub record AllReady {B : Type 0} (ready : B → Type 0) (mounts : List (ModulePath × B)) (fallback : Option B) : Type 0 where
   pub mounted : (k : ℕ) (m : ModulePath × B) → slice_get mounts k ≡ Some m → ready m.1
   pub beside : IfSome fallback ready
+
+-- each resolver that is mounted stands so to the one that was mounted in its place, and the fallback to the fallback
+pub record KeepsEach {B : Type 0} (Same : B → B → Type 0) (mounts : List (ModulePath × B)) (fallback : Option B) (mounts_after : List (ModulePath × B)) (fallback_after : Option B) : Type 0 where
+  pub mounted : (k : ℕ) (m after : ModulePath × B) → slice_get mounts k ≡ Some m → slice_get mounts_after k ≡ Some after → Same m.1 after.1
+  pub beside : (b after : B) → fallback ≡ Some b → fallback_after ≡ Some after → Same b after

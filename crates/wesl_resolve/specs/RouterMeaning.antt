@@ -6,7 +6,7 @@ use Rattle.wesl_tree_names.specs.declared.errors.ResolveError.{ResolveError}
 use Rattle.wesl_tree_syntax.specs.Unit.{UnitOf}
 use Rattle.wesl_resolve.specs.Held.{mounts_of, fallback_of}
 use Rattle.wesl_resolve_base.specs.Resolver.{MeansTheSame}
-use Rattle.wesl_resolve.specs.Router.{LeavesOthers, Routed, NoRoute}
+use Rattle.wesl_resolve.specs.Router.{KeepsEach, LeavesOthers, Routed, NoRoute}
 use Rattle.wesl_resolve.specs.declared.router.Router.{Router}
 
 module _ {B : Type 0} where
@@ -44,3 +44,10 @@ module _ {B : Type 0} where
   -- a call for the path reaches no resolver but the one that the path goes to
   abbrev pub ReachesOne : Path → Router B → Router B → Type 0
   ReachesOne p old new = LeavesOthers p (mounts_of old) (fallback_of old) (mounts_of new) (fallback_of new)
+
+  -- each resolver that is mounted means what it meant, also where no path leads, and so does the fallback
+  abbrev pub EachMeansTheSame :
+      (B → Path → UnitOf Text → Type 0) → (B → Path → ResolveError → Type 0)
+      → (B → Path → Text → Type 0) → (B → Path → ResolveError → Type 0) → (B → Path → Option Text → Type 0) → Router B → Router B → Type 0
+  EachMeansTheSame hands refuses source lacks shown old new =
+      KeepsEach (MeansTheSame hands refuses source lacks shown) (mounts_of old) (fallback_of old) (mounts_of new) (fallback_of new)

@@ -3,11 +3,12 @@ use Rattle.std.specs.Prelude.{◌≡◌, ◌⊎◌, if◌then◌else◌, Option,
 use Rattle.std.specs.declared.alloc.Global.{Global}
 use Rattle.wesl_tree_names.specs.Path.{Text, Path, path_view}
 use Rattle.wesl_tree_names.specs.PathOrder.{same_path}
-use Rattle.wesl_tree_names.specs.Errors.{IsModuleNotFound, IsRefusedFor}
+use Rattle.wesl_tree_names.specs.Errors.{IsModuleNotFound}
 use Rattle.wesl_tree_names.specs.declared.path.ModulePath.{ModulePath}
 use Rattle.wesl_tree_names.specs.declared.errors.Error.{Error}
 use Rattle.wesl_tree_names.specs.declared.errors.ResolveError.{ResolveError}
 use Rattle.wesl_tree_syntax.specs.Unit.{UnitOf}
+use Rattle.wesl_resolve_base.specs.Refusals.{IsToldRefusal}
 
 -- what the entries of a map say
 abbrev pub texts_of : List (ModulePath × String Global) → List (Path × Text)
@@ -39,6 +40,6 @@ IsReadAt reads texts p u = (text : Text) × (text_at p texts ≡ Some text) × r
 abbrev pub IsMissing : List (Path × Text) → Path → ResolveError → Type 0
 IsMissing texts p e = (text_at p texts ≡ None) × IsModuleNotFound p (codes "virtual module") e
 
--- the path has no text, or its text cannot be read
+-- the path has no text, or its text cannot be read, which is told with the path and the text
 abbrev pub IsRefusedAt : (Text → Error → Type 0) → List (Path × Text) → Path → ResolveError → Type 0
-IsRefusedAt unreadable texts p e = IsMissing texts p e ⊎ ((text : Text) × (text_at p texts ≡ Some text) × IsRefusedFor (unreadable text) e)
+IsRefusedAt unreadable texts p e = IsMissing texts p e ⊎ ((text : Text) × (text_at p texts ≡ Some text) × IsToldRefusal (unreadable text) p None (Some text) e)

@@ -1,5 +1,5 @@
 //! Modules of packages.
-ghost use Rattle.std.specs.Prelude.{◌≡◌, ◌++◌, ◌∷◌, [], None, IfOk, IfErr, OnOk, OnErr, string_bytes};
+ghost use Rattle.std.specs.Prelude.{◌≡◌, ◌++◌, ◌∷◌, [], None, Ok, IfOk, IfErr, OnOk, OnErr, string_bytes};
 ghost use Rattle.wesl_tree_names.specs.Path.{path_view};
 ghost use Rattle.wesl_tree_names.specs.Errors.{OrMemory};
 ghost use Rattle.wesl_tree_names.specs.declared.errors.Error as error;
@@ -97,8 +97,6 @@ impl<P: UnitText> Resolver for PkgResolver<P> {
     ghost use Rattle.wesl_resolve_base.specs.Packages.{IsMissingIn, IsReadIn, IsRefusedIn, IsSourceIn};
     ghost use Rattle.wesl_resolve.specs.Held.{added_packages, package_reader_of};
 
-    ghost ready = { λ _. Unit {0} };
-
     ghost hands = { λ s p u. IsReadIn (P.reads (package_reader_of s)) (added_packages s) p u };
 
     ghost refuses = { λ s p e. IsRefusedIn (P.unreadable (package_reader_of s)) (added_packages s) p e };
@@ -135,11 +133,14 @@ impl<P: UnitText> Resolver for PkgResolver<P> {
         self.read_at(alloc, path)
     }
 
+    /// No module has a name.
     fn display_name(
         &self,
         _alloc: Global,
         _path: &ModulePath,
-    ) -> Result<Option<String>, ResolveError> {
+    ) -> Result<Option<String>, ResolveError>
+        ensures { result ≡ Ok None }
+    {
         Ok(None)
     }
 }

@@ -96,7 +96,7 @@ impl<B: Resolver + Drop> Router<B> {
 impl<B: Resolver> Resolver for Router<B> {
     ghost use Rattle.wesl_resolve.specs.Held.{mounts_of, fallback_of};
     ghost use Rattle.wesl_resolve.specs.Router.{AllReady};
-    ghost use Rattle.wesl_resolve.specs.RouterMeaning.{router_hands, router_refuses, router_source, router_lacks, router_shown, ReachesOne, RouterMeans};
+    ghost use Rattle.wesl_resolve.specs.RouterMeaning.{router_hands, router_refuses, router_source, router_lacks, router_shown, EachMeansTheSame, ReachesOne, RouterMeans};
 
     ghost ready = { λ r. AllReady B.ready (mounts_of r) (fallback_of r) };
 
@@ -118,6 +118,7 @@ impl<B: Resolver> Resolver for Router<B> {
         ensures refused { IfErr result (OrMemory (router_lacks B.lacks self.old (path_view path.now))) }
         ensures same { RouterMeans B.hands B.refuses B.source B.lacks B.shown self.old self.new }
         ensures stays_ready { AllReady B.ready (mounts_of self.new) (fallback_of self.new) }
+        ensures each { EachMeansTheSame B.hands B.refuses B.source B.lacks B.shown self.old self.new }
         ensures others { ReachesOne (path_view path.now) self.old self.new }
     {
         match route(&self.mount_points, path) {
@@ -145,6 +146,7 @@ impl<B: Resolver> Resolver for Router<B> {
         ensures refused { IfErr result (OrMemory (router_refuses B.refuses self.old (path_view path.now))) }
         ensures same { RouterMeans B.hands B.refuses B.source B.lacks B.shown self.old self.new }
         ensures stays_ready { AllReady B.ready (mounts_of self.new) (fallback_of self.new) }
+        ensures each { EachMeansTheSame B.hands B.refuses B.source B.lacks B.shown self.old self.new }
         ensures others { ReachesOne (path_view path.now) self.old self.new }
     {
         match route(&self.mount_points, path) {

@@ -1,5 +1,5 @@
 //! Modules that are held in memory, as texts.
-ghost use Rattle.std.specs.Prelude.{◌≡◌, false, None, Some, [], IfOk, IfErr, OnOk, OnErr, map, option_map, string_bytes};
+ghost use Rattle.std.specs.Prelude.{◌≡◌, false, None, Some, Ok, [], IfOk, IfErr, OnOk, OnErr, map, option_map, string_bytes};
 ghost use Rattle.wesl_tree_names.specs.Path.{Text, Path, path_view, is_relative};
 ghost use Rattle.wesl_tree_names.specs.Errors.{OrMemory};
 ghost use Rattle.wesl_tree_names.specs.declared.errors.Error as error;
@@ -154,8 +154,6 @@ impl<P: UnitText> Resolver for VirtualResolver<P> {
     ghost use Rattle.wesl_resolve.specs.Texts.{text_at, IsMissing, IsReadAt, IsRefusedAt};
     ghost use Rattle.wesl_resolve.specs.Held.{held_sources, reader_of};
 
-    ghost ready = { λ _. Unit {0} };
-
     ghost hands = { λ s p u. IsReadAt (P.reads (reader_of s)) (held_sources s) p u };
 
     ghost refuses = { λ s p e. IsRefusedAt (P.unreadable (reader_of s)) (held_sources s) p e };
@@ -192,11 +190,14 @@ impl<P: UnitText> Resolver for VirtualResolver<P> {
         self.read_at(alloc, path)
     }
 
+    /// No module has a name.
     fn display_name(
         &self,
         _alloc: Global,
         _path: &ModulePath,
-    ) -> Result<Option<String>, ResolveError> {
+    ) -> Result<Option<String>, ResolveError>
+        ensures { result ≡ Ok None }
+    {
         Ok(None)
     }
 }

@@ -4,10 +4,11 @@ use Rattle.std.specs.Str.{bytes_eq}
 use Rattle.std.specs.List.{find}
 use Rattle.wesl_tree_names.specs.Path.{Text, Path, Origin, absolute, relative, from_package}
 use Rattle.wesl_tree_base.specs.Pieces.{cut, slash}
-use Rattle.wesl_tree_names.specs.Errors.{IsModuleNotFound, IsRefusedFor}
+use Rattle.wesl_tree_names.specs.Errors.{IsModuleNotFound}
 use Rattle.wesl_tree_names.specs.declared.errors.Error.{Error}
 use Rattle.wesl_tree_names.specs.declared.errors.ResolveError.{ResolveError}
 use Rattle.wesl_tree_syntax.specs.Unit.{UnitOf}
+use Rattle.wesl_resolve_base.specs.Refusals.{IsToldRefusal}
 use Rattle.wesl_resolve_base.specs.declared.packages.CodegenModule.{CodegenModule, out-CodegenModule}
 use Rattle.wesl_resolve_base.specs.declared.packages.CodegenPkg.{CodegenPkg, out-CodegenPkg}
 
@@ -92,9 +93,9 @@ IsSaid p found e = (message : Text) × (found ≡ Err message) × IsModuleNotFou
 abbrev pub IsMissingIn : List CodegenPkg → Path → ResolveError → Type 0
 IsMissingIn packages p e = IsSaid p (module_at packages p) e
 
--- no module is at the path, or its source cannot be read
+-- no module is at the path, or its source cannot be read, which is told with the path and the source
 abbrev pub IsRefusedIn : (Text → Error → Type 0) → List CodegenPkg → Path → ResolveError → Type 0
-IsRefusedIn unreadable packages p e = IsMissingIn packages p e ⊎ ((m : CodegenModule) × (module_at packages p ≡ Ok m) × IsRefusedFor (unreadable (source_of m)) e)
+IsRefusedIn unreadable packages p e = IsMissingIn packages p e ⊎ ((m : CodegenModule) × (module_at packages p ≡ Ok m) × IsToldRefusal (unreadable (source_of m)) p None (Some (source_of m)) e)
 
 -- a module is at the path, and the text is its source
 abbrev pub IsSourceIn : List CodegenPkg → Path → Text → Type 0

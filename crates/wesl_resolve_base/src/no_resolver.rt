@@ -1,5 +1,5 @@
 //! A resolver without modules.
-ghost use Rattle.std.specs.Prelude.{◌≡◌, None, codes};
+ghost use Rattle.std.specs.Prelude.{◌≡◌, None, Ok, codes};
 ghost use Rattle.wesl_tree_names.specs.Errors.{IsModuleNotFound};
 
 use crate::refusals::not_found;
@@ -13,8 +13,6 @@ use wesl_tree_names::{ModulePath, ResolveError};
 pub struct NoResolver;
 
 impl Resolver for NoResolver {
-    ghost ready = { λ _. Unit {0} };
-
     ghost hands = { λ _ p u. ⊥ };
 
     ghost refuses = { λ _ p e. IsModuleNotFound p (codes "no module resolver, imports are effectively disabled here") e };
@@ -39,11 +37,14 @@ impl Resolver for NoResolver {
         Err(not_found(alloc, path, message))
     }
 
+    /// No module has a name.
     fn display_name(
         &self,
         _alloc: Global,
         _path: &ModulePath,
-    ) -> Result<Option<String>, ResolveError> {
+    ) -> Result<Option<String>, ResolveError>
+        ensures { result ≡ Ok None }
+    {
         Ok(None)
     }
 }

@@ -1,11 +1,10 @@
 //! Refusals that resolvers make.
-ghost use Rattle.std.specs.Prelude.{◌≡◌, false, IfOk, IfErr, IfSome, IsOkAnd, string_bytes};
+ghost use Rattle.std.specs.Prelude.{◌≡◌, false, IfOk, IfErr, IfSome, IsOkAnd, option_map, string_bytes};
 ghost use Rattle.std.specs.Result.{result_ok};
 ghost use Rattle.wesl_tree_names.specs.Path.{path_view, is_relative};
-ghost use Rattle.wesl_tree_names.specs.Errors.{OrMemory, IsModuleNotFound, IsRefusedWith, IsRefusedFor};
-ghost use Rattle.wesl_tree_names.specs.declared.errors.Error as error;
+ghost use Rattle.wesl_tree_names.specs.Errors.{is_memory, OrMemory, IsModuleNotFound, IsRefusedFor};
+ghost use Rattle.wesl_resolve_base.specs.Refusals.{HoldsDiagnostic, TellsModule, IsShownRefusal};
 ghost use Rattle.wesl_tree_names.specs.declared.errors.ResolveError as resolve_error;
-ghost use Rattle.wesl_tree_names.specs.declared.errors.Diagnostic.{out-Diagnostic};
 
 use crate::resolver::Resolver;
 use std::alloc::{AllocError, Global};
@@ -66,17 +65,18 @@ pub(crate) fn not_found_for(
 
 /// The path that the refusal of a module tells: none where memory was wanting before, or is for the copy.
 fn path_told(alloc: Global, fault: &Error, path: &ModulePath) -> Option<ModulePath>
-    ensures { IfSome result (λ _. fault.now ≡ error.Memory → ⊥) }
+    ensures same { IfSome result (λ m. path_view m ≡ path_view path.now) }
+    ensures not_memory { IfSome result (λ _. is_memory fault.now ≡ false) }
 {
-    match fault {
-        Error::Memory => None,
-        _ => made(path.try_clone(alloc)),
+    if fault.is_memory() {
+        return None;
     }
+    made(path.try_clone(alloc))
 }
 
 /// The refusal that a diagnostic tells.
 fn refusal_of(alloc: Global, diagnostic: Diagnostic) -> ResolveError
-    ensures { OrMemory (IsRefusedWith (λ e. e ≡ (out-Diagnostic diagnostic).error)) result }
+    ensures { OrMemory (HoldsDiagnostic diagnostic) result }
 {
     match Box::new(alloc, diagnostic) {
         Ok(diagnostic) => ResolveError::Error(diagnostic),
@@ -84,8 +84,8 @@ fn refusal_of(alloc: Global, diagnostic: Diagnostic) -> ResolveError
     }
 }
 
-/// The refusal of a module that is there, with the path, the name that it is shown by and the source that is told.
-/// Want of memory stays what it is.
+/// The refusal of a module that is there, with the path, the name that it is shown by and the source that is told: no
+/// declaration and no place. Want of memory stays what it is, also where somebody wrapped it.
 pub fn refused(
     alloc: Global,
     fault: Error,
@@ -93,7 +93,8 @@ pub fn refused(
     display: Option<String>,
     source: Option<String>,
 ) -> ResolveError
-    ensures { OrMemory (IsRefusedFor (λ e. e ≡ fault)) result }
+    ensures error { OrMemory (IsRefusedFor (λ e. e ≡ fault)) result }
+    ensures told { OrMemory (TellsModule (path_view path.now) (option_map string_bytes display) (option_map string_bytes source)) result }
 {
     let module = path_told(alloc, &fault, path);
     let is_told = module.is_some();
@@ -112,7 +113,8 @@ pub fn refused(
     }
 }
 
-/// The refusal of the unit at a path, with the name by which the resolver shows it.
+/// The refusal of the unit at a path, with the name by which the resolver shows it, and without a source. Want of memory
+/// stays what it is, also where somebody wrapped it.
 pub fn refused_by<R: Resolver>(
     resolver: &R,
     alloc: Global,
@@ -121,7 +123,7 @@ pub fn refused_by<R: Resolver>(
 ) -> ResolveError
     requires asked { R.ready resolver.now }
     requires rooted { is_relative (path_view path.now) ≡ false }
-    ensures { OrMemory (IsRefusedFor (λ e. e ≡ fault)) result }
+    ensures { OrMemory (IsShownRefusal (λ e. e ≡ fault) (path_view path.now) (R.shown resolver.now (path_view path.now))) result }
 {
     match resolver.display_name(alloc, path) {
         Ok(display) => refused(alloc, fault, path, display, None),

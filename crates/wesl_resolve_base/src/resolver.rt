@@ -16,8 +16,8 @@ use wesl_tree_names::{ModulePath, ResolveError};
 ///
 /// What it hands out, refuses and shows at each path is fixed: no call changes it. Units count by their spelling.
 pub trait Resolver {
-    /// It may be asked, as where a function that it holds may be called.
-    ghost ready: { Self → Type 0 };
+    /// It may be asked, as where a function that it holds may be called: always, where nothing is said.
+    ghost ready: { Self → Type 0 } = { λ _. Unit {0} };
 
     /// It may hand out at the path a unit that is spelled so.
     ghost hands: { Self → Path → UnitOf Text → Type 0 };
@@ -28,8 +28,8 @@ pub trait Resolver {
     /// It may give the text as the source at the path.
     ghost source: { Self → Path → Text → Type 0 };
 
-    /// It may refuse the source at the path with the error.
-    ghost lacks: { Self → Path → ResolveError → Type 0 };
+    /// It may refuse the source at the path with the error: with any, where nothing is said.
+    ghost lacks: { Self → Path → ResolveError → Type 0 } = { λ _ p e. Unit {0} };
 
     /// It may show the path by the name, or by none.
     ghost shown: { Self → Path → Option Text → Type 0 };

@@ -1,12 +1,13 @@
 //! A form in which units are written as texts.
-ghost use Rattle.std.specs.Prelude.{◌≡◌, ◌⊎◌, IfOk, IfErr, string_bytes};
-ghost use Rattle.wesl_tree_names.specs.Path.{Text};
-ghost use Rattle.wesl_tree_names.specs.Errors.{OrMemory, IsRefusedFor};
+ghost use Rattle.std.specs.Prelude.{◌≡◌, ◌⊎◌, None, Some, IfOk, IfErr, string_bytes};
+ghost use Rattle.wesl_tree_names.specs.Path.{Text, path_view};
+ghost use Rattle.wesl_tree_names.specs.Errors.{OrMemory};
 ghost use Rattle.wesl_tree_names.specs.declared.errors.Error.{Error};
 ghost use Rattle.wesl_tree_names.specs.declared.errors.Error as error;
 ghost use Rattle.wesl_tree_names.specs.declared.errors.Diagnostic.{out-Diagnostic};
 ghost use Rattle.wesl_tree_syntax.specs.Unit.{UnitOf, spelled};
 ghost use Rattle.wesl_tree.specs.Translation.{unit_view};
+ghost use Rattle.wesl_resolve_base.specs.Refusals.{IsToldRefusal};
 ghost use Rattle.wesl_resolve_base.specs.UnitText.{HasTextPaths};
 
 use crate::refusals::refused;
@@ -41,9 +42,9 @@ pub trait UnitText {
     ghost reads_back: { (s : Self) (u v : UnitOf Text) (text : Text) → HasTextPaths u → prints s u text → reads s text v → v ≡ u };
 }
 
-/// The refusal of a source that cannot be read, which is told.
+/// The refusal of a source that cannot be read, which is told with the path.
 fn unreadable(alloc: Global, fault: Diagnostic, path: &ModulePath, source: &str) -> ResolveError
-    ensures { OrMemory (IsRefusedFor (λ e. e ≡ (out-Diagnostic fault).error)) result }
+    ensures { OrMemory (IsToldRefusal (λ e. e ≡ (out-Diagnostic fault).error) (path_view path.now) None (Some source.now)) result }
 {
     match String::from_str(alloc, source) {
         Ok(source) => refused(alloc, fault.into_error(), path, None, Some(source)),
@@ -51,7 +52,8 @@ fn unreadable(alloc: Global, fault: Diagnostic, path: &ModulePath, source: &str)
     }
 }
 
-/// The unit that the source of the module at a path says.
+/// The unit that the source of the module at a path says. Where it says none, the refusal tells the path and the
+/// source.
 pub fn read_module<P: UnitText>(
     text: &P,
     alloc: Global,
@@ -59,7 +61,7 @@ pub fn read_module<P: UnitText>(
     source: &str,
 ) -> Result<TranslationUnit, ResolveError>
     ensures read { IfOk result (λ u. P.reads text.now source.now (spelled (unit_view u))) }
-    ensures refused { IfErr result (OrMemory (IsRefusedFor (P.unreadable text.now source.now))) }
+    ensures refused { IfErr result (OrMemory (IsToldRefusal (P.unreadable text.now source.now) (path_view path.now) None (Some source.now))) }
 {
     match text.read(alloc, source) {
         Ok(unit) => Ok(unit),

@@ -6,18 +6,31 @@ use wesl::{
     Diagnostic, Error, Feature, Features, GlobalDeclaration, TranslationUnit, alive_together,
     eval_attr, flag_count,
 };
-use wesl_rows_base::{List, Object, Row, declared, fault, is_refused};
+use wesl_rows_base::{List, Object, Row, declared, fault, is_refused, located, put_span};
+
+/// What a call answers, or its fault with all that is told of it. Want of memory is noted.
+fn judged<T: Drop>(row: Row<'_>, outcome: Result<T, Diagnostic>) -> Result<T, Value> {
+    match outcome {
+        Ok(value) => Ok(value),
+        Err(fault) => {
+            row.refused_if(matches!(fault.error, Error::Memory));
+            let told = located(row, &fault);
+            drop(fault);
+            Err(told)
+        }
+    }
+}
 
 /// What a run under the `features`, and then `next` if they are there, leaves of the unit of the `tree`, or the fault
 /// that it tells, which is to leave the unit as it was.
 pub fn left(row: Row<'_>) -> Value {
     let features = composed(row);
     let before = row.tree();
-    let mut judged = row.unit_or_none(before.try_clone(row.alloc));
-    match row.told(run(row.alloc, &mut judged, &features)) {
-        Ok(()) => row.tree_of(&judged),
+    let mut unit = row.unit_or_none(before.try_clone(row.alloc));
+    match judged(row, run(row.alloc, &mut unit, &features)) {
+        Ok(()) => row.tree_of(&unit),
         Err(told) => {
-            if judged.same_spelling(&before) {
+            if unit.same_spelling(&before) {
                 told
             } else {
                 fault(row, "the refused run changed the unit")
@@ -29,12 +42,7 @@ pub fn left(row: Row<'_>) -> Value {
 /// A fault of a condition, with its span where one is told.
 fn fault_told(row: Row<'_>, told: &Diagnostic) -> Value {
     let mut answer = Object::new(row.alloc);
-    if let Some(span) = told.span {
-        let mut ends = List::new(row.alloc);
-        ends.put(Value::from(span.start));
-        ends.put(Value::from(span.end));
-        answer.put("span", ends.end(row));
-    }
+    put_span(row, &mut answer, &told.span);
     answer.put("told", declared(row, told));
     answer.end(row)
 }
@@ -127,7 +135,10 @@ pub fn formulas_left(row: Row<'_>) -> Value {
             &mut declaration.node,
             &fault,
         ) {
-            match row.told(eval_attr(row.alloc, &names, &assertion.expression, &features)) {
+            match judged(
+                row,
+                eval_attr(row.alloc, &names, &assertion.expression, &features),
+            ) {
                 Ok(left) => assertion.expression.node = left,
                 Err(told) => fault = told,
             }

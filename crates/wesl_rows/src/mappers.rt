@@ -72,7 +72,7 @@ fn passed_on<R: Resolver + Drop>(row: Row<'_>, call: &str, resolver: R) -> Value
     let answer = match asked {
         "resolve_module" => {
             match told(row, mapper.resolve_module(row.alloc, &row.rooted("path"))) {
-                Ok(unit) => row.tree_of(&unit),
+                Ok(unit) => row.written(&unit),
                 Err(fault) => fault,
             }
         }

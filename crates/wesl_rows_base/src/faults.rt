@@ -3,7 +3,7 @@ use crate::answers::{List, Object};
 use crate::inputs::Row;
 use serde_json::Value;
 use wesl_tree::{
-    CondCompError, Diagnostic, Error, ImportError, ModulePath, ResolveError, ValidateError,
+    CondCompError, Diagnostic, Error, ImportError, ModulePath, ResolveError, Span, ValidateError,
 };
 
 /// A fault with this name and these arguments, as an object to which more may be put.
@@ -87,6 +87,7 @@ impl Worded for ResolveError {
     fn words(&self, row: Row<'_>) -> Value {
         match self {
             ResolveError::Error(diagnostic) => located(row, diagnostic),
+            ResolveError::Memory => fault(row, "Memory"),
             error => of_refusal(row, error).end(row),
         }
     }
@@ -99,9 +100,24 @@ pub fn declared(row: Row<'_>, diagnostic: &Diagnostic) -> Value {
     answer.end(row)
 }
 
-/// The same with the module, its source and its display name.
+/// Puts a span as its two numbers, where one is told.
+pub fn put_span(row: Row<'_>, answer: &mut Object, span: &Option<Span>) {
+    if let Some(span) = span {
+        let mut ends = List::new(row.alloc);
+        ends.put(Value::from(span.start));
+        ends.put(Value::from(span.end));
+        answer.put("span", ends.end(row));
+    }
+}
+
+/// The answer of a diagnostic, with the module, its source and its display name, and the place and the declaration where
+/// they are told.
 pub fn located(row: Row<'_>, diagnostic: &Diagnostic) -> Value {
     let mut answer = object_of(row, &diagnostic.error);
+    put_span(row, &mut answer, &diagnostic.span);
+    if let Some(name) = &diagnostic.declaration {
+        answer.text("declaration", name.as_str());
+    }
     let module = match &diagnostic.module {
         Some(path) => row.path_value(path),
         None => Value::Null,
@@ -178,7 +194,8 @@ fn of_import(row: Row<'_>, error: &ImportError) -> Object {
     }
 }
 
-/// A refusal of a resolver; of what a diagnostic tells there, that it is another fault.
+/// A refusal of a resolver within an error; of what a diagnostic tells there, that it is another fault, and of want of memory,
+/// which no error is to hold, that one does.
 fn of_refusal(row: Row<'_>, error: &ResolveError) -> Object {
     match error {
         ResolveError::ModuleNotFound(path, reason) => {
@@ -188,7 +205,7 @@ fn of_refusal(row: Row<'_>, error: &ResolveError) -> Object {
             of_names(row, "FileNotFound", file.as_str(), reason.as_str())
         }
         ResolveError::Error(_) => bare(row, "another fault"),
-        ResolveError::Memory => bare(row, "Memory"),
+        ResolveError::Memory => bare(row, "Memory within an error"),
     }
 }
 

@@ -7,7 +7,7 @@ use crate::refusals::{MEMORY, Refusal};
 use serde_json::Value;
 use std::alloc::Global;
 use std::cell::Cell;
-use wesl_json::{JsonText, unit_of_value, value_of_unit};
+use wesl_json::{JsonText, unit_of_value, value_of_unit, value_of_unit_2};
 use wesl_resolve::VirtualResolver;
 use wesl_tree::{Error, ModulePath, Names, TranslationUnit};
 
@@ -316,6 +316,15 @@ impl<'a> Row<'a> {
     /// The tree of a unit as a value.
     pub fn tree_of(self, unit: &TranslationUnit) -> Value {
         self.or(value_of_unit(self.alloc, unit), Value::Null)
+    }
+
+    /// The same with the places of its nodes, where the row asks for that: with `form` 2.
+    pub fn written(self, unit: &TranslationUnit) -> Value {
+        if self.number("form", 1) == 2 {
+            self.or(value_of_unit_2(self.alloc, unit), Value::Null)
+        } else {
+            self.tree_of(unit)
+        }
     }
 }
 

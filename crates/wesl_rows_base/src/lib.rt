@@ -15,6 +15,6 @@ mod texts;
 pub use answers::{
     List, Object, found_value, item_value, line, names_value, numbers_value, unit_of_one,
 };
-pub use faults::{Worded, declared, fault, located, refused, stands};
+pub use faults::{Worded, declared, fault, located, put_span, refused, stands};
 pub use inputs::{Row, is_refused, text_of};
 pub use texts::printed;

@@ -108,7 +108,7 @@ impl<M: Mangler> Mangler for NameLog<'_, M> {
 
     ghost recorded = { λ s name. M.recorded s.inner name };
 
-    ghost writes = { M.writes };
+    ghost writes = { λ s. M.writes s.inner };
 
     ghost item_of = { λ s name. M.item_of s.inner name };
 

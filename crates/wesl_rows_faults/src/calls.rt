@@ -1,5 +1,5 @@
 //! The calls by their names.
-use crate::{asks, deep, endless, errors, nodes, resolvers, streams};
+use crate::{asks, deep, endless, errors, maps, names, nodes, refusals, resolvers, streams};
 use serde_json::Value;
 use wesl_rows_base::Row;
 
@@ -11,14 +11,24 @@ pub fn answered(row: Row<'_>) -> Value {
         "a link by a resolver without end" => endless::linked_by(row, false),
         "a link by a resolver without memory" => endless::linked_by(row, true),
         "a link by a function without memory" => endless::refused_by_function(row),
+        "a link by a function that wraps want of memory" => endless::refused_in_error(row),
+        "Preprocessor::resolve_module of functions that wrap want of memory" => {
+            resolvers::unread_in_error(row)
+        }
         "Error::of_resolve" => errors::converted(row),
+        "Error::from of want of memory" => errors::unwrapped(row),
         "ImportError, ResolveError as texts" => errors::told(row),
         "Diagnostic as a text" => errors::told_where(row),
         "TryClone::try_clone of a node with a span" => nodes::copied(row),
         "TranslationUnit::from_parts of a constant" => nodes::made(row),
         "== of spans" => nodes::spans_are_equal(row),
         "Router::resolve_source of boxes" => resolvers::routed(row),
-        "Resolver of a box, display_name" => resolvers::boxed_name(row),
+        "Resolver::display_name of modules that are shown" => names::told(row),
+        "Resolver::resolve_module of modules that are shown" => refusals::told_in_a_way(row),
+        "a link of modules that are shown" => refusals::told_in_a_way(row),
+        "link_under of modules that are shown" => refusals::told_under_features(row),
+        "link_mapped, then the sources of its map" => maps::told(row, false),
+        "find_mapped and finish, then the sources of the map" => maps::told(row, true),
         "Preprocessor::resolve_module" => resolvers::preprocessed(row),
         "VirtualResolver::resolve_module without memory" => resolvers::unread(row),
         "wesl::run on a reader that fails" => streams::unread(row),

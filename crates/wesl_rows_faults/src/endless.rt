@@ -1,5 +1,7 @@
 //! A resolver that never runs out of modules, or never has memory.
-use crate::resolvers::{passed, starved};
+use crate::resolvers::{
+    passed, starved, starved_as_import, starved_as_resolver, starved_by_resolver,
+};
 use serde_json::Value;
 use std::alloc::Global;
 use wesl_json::JsonText;
@@ -122,4 +124,14 @@ pub fn linked_by(row: Row<'_>, is_starved: bool) -> Value {
 pub fn refused_by_function(row: Row<'_>) -> Value {
     let resolver = Everywhere { is_starved: false };
     linked(row, &mut Preprocessor::new(resolver, starved))
+}
+
+/// What is told of a link where such a function says so within another error, as the row says.
+pub fn refused_in_error(row: Row<'_>) -> Value {
+    let resolver = Everywhere { is_starved: false };
+    match row.text("wants_memory") {
+        "as a resolver" => linked(row, &mut Preprocessor::new(resolver, starved_as_resolver)),
+        "as an import" => linked(row, &mut Preprocessor::new(resolver, starved_as_import)),
+        _ => linked(row, &mut Preprocessor::new(resolver, starved_by_resolver)),
+    }
 }

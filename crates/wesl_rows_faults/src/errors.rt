@@ -18,6 +18,15 @@ pub fn converted(row: Row<'_>) -> Value {
     errors.end(row)
 }
 
+/// What want of memory is as an error: that of a resolver, and that of a resolver as the fault of an import.
+pub fn unwrapped(row: Row<'_>) -> Value {
+    let of_import = ImportError::from(ResolveError::Memory);
+    let mut errors = List::new(row.alloc);
+    errors.put(row.answer_of(Error::from(ResolveError::Memory)));
+    errors.put(row.answer_of(Error::from(of_import)));
+    errors.end(row)
+}
+
 /// The text of an error, which is let go here.
 fn text_of<E: Display + Drop>(row: Row<'_>, error: E) -> Value {
     row.printed(format!(in row.alloc; "{error}"))

@@ -1,6 +1,6 @@
-//! Rows of what inputs as data cannot say: readers and writers that fail, resolvers of a caller's own, nodes with spans or
-//! nameless identifiers, units that are deeper than JSON, and errors that stand for want of memory. `wesl_rows` reads the
-//! rows.
+//! Rows of what inputs as data cannot say: readers and writers that fail, resolvers of a caller's own, what refusals tell
+//! beside their errors, nodes with spans or nameless identifiers, units that are deeper than JSON, errors that stand for want
+//! of memory, and what the map of a link knows. `wesl_rows` reads the rows.
 #![tactic(auto)]
 
 mod asks;
@@ -8,8 +8,12 @@ mod calls;
 mod deep;
 mod endless;
 mod errors;
+mod maps;
+mod names;
 mod nodes;
+mod refusals;
 mod resolvers;
+mod shown;
 mod streams;
 
 use serde_json::Value;

@@ -5,10 +5,10 @@ ghost use Rattle.wesl_tree_syntax.specs.Unit.{spelled, empty_unit};
 use serde_json::Value;
 use std::alloc::Global;
 use wesl_resolve::{Preprocessor, Router, VirtualResolver};
-use wesl_resolve_base::{NoResolver, Resolver, UnitText};
+use wesl_resolve_base::{Resolver, UnitText};
 use wesl_rows_base::{List, Object, Row};
 use wesl_tree::TranslationUnit;
-use wesl_tree_names::{Diagnostic, Error, ModulePath, ResolveError};
+use wesl_tree_names::{Diagnostic, Error, ImportError, ResolveError};
 
 /// Every text but `bad` and `large` says the empty unit; for `large` there is no memory.
 #[derive(Clone, Copy)]
@@ -110,8 +110,28 @@ pub fn starved(_: TranslationUnit) -> Result<TranslationUnit, Error> {
     Err(Error::Memory)
 }
 
+/// Wants memory for every unit, as a resolver says it.
+pub fn starved_as_resolver(_: TranslationUnit) -> Result<TranslationUnit, Error> {
+    Err(Error::Resolve(ResolveError::Memory))
+}
+
+/// Wants memory for every unit, as an import says it.
+pub fn starved_as_import(_: TranslationUnit) -> Result<TranslationUnit, Error> {
+    Err(Error::Import(ImportError::ResolveError(ResolveError::Memory)))
+}
+
+/// The same as `starved`, as a resolver answers it.
+fn asked(_: TranslationUnit) -> Result<TranslationUnit, ResolveError> {
+    Err(ResolveError::Memory)
+}
+
+/// Wants memory for every unit, since a resolver does that it asks.
+pub fn starved_by_resolver(unit: TranslationUnit) -> Result<TranslationUnit, Error> {
+    Ok(asked(unit)?)
+}
+
 /// Refuses every unit.
-fn refused(_: TranslationUnit) -> Result<TranslationUnit, Error> {
+pub fn refused(_: TranslationUnit) -> Result<TranslationUnit, Error> {
     Err(Error::NotNormalType)
 }
 
@@ -141,63 +161,15 @@ pub fn unread(row: Row<'_>) -> Value {
     outcomes.end(row)
 }
 
-/// Has no module, and shows each path by its text.
-#[derive(Clone, Copy)]
-struct PathNames;
-
-impl Resolver for PathNames {
-    ghost ready = { λ _. Unit {0} };
-
-    ghost hands = { λ _ p u. Unit {0} };
-
-    ghost refuses = { λ _ p e. Unit {0} };
-
-    ghost source = { λ _ p text. Unit {0} };
-
-    ghost lacks = { λ _ p e. Unit {0} };
-
-    ghost shown = { λ _ p name. Unit {0} };
-
-    fn resolve_source(&mut self, alloc: Global, path: &ModulePath) -> Result<String, ResolveError> {
-        NoResolver.resolve_source(alloc, path)
-    }
-
-    fn resolve_module(
-        &mut self,
-        alloc: Global,
-        path: &ModulePath,
-    ) -> Result<TranslationUnit, ResolveError> {
-        NoResolver.resolve_module(alloc, path)
-    }
-
-    fn display_name(
-        &self,
-        alloc: Global,
-        path: &ModulePath,
-    ) -> Result<Option<String>, ResolveError> {
-        match path.to_text(alloc) {
-            Ok(text) => Ok(Some(text)),
-            Err(_) => Err(ResolveError::Memory),
-        }
-    }
-}
-
-/// The name by which a resolver shows the row's `path`, null where it has none.
-fn name<R: Resolver + Drop>(row: Row<'_>, resolver: R) -> Value
-    requires { R.ready resolver }
-{
-    let path = row.rooted("path");
-    match row.told(resolver.display_name(row.alloc, &path)) {
-        Ok(Some(name)) => Value::String(name),
-        Ok(None) => Value::Null,
-        Err(fault) => fault,
-    }
-}
-
-/// The name by which a resolver in a box shows the row's `path`.
-pub fn boxed_name(row: Row<'_>) -> Value {
-    match row.boxed(PathNames) {
-        Some(resolver) => name(row, resolver),
-        None => Value::Null,
-    }
+/// What is told of a module by three preprocessors whose functions want memory, and say so within another error.
+pub fn unread_in_error(row: Row<'_>) -> Value {
+    let mut held = holding(row, "package::a", "a");
+    let mut as_resolver = Preprocessor::new(&mut held, starved_as_resolver);
+    let mut outcomes = List::new(row.alloc);
+    outcomes.put(told(row, &mut as_resolver, "package::a"));
+    let mut as_import = Preprocessor::new(&mut held, starved_as_import);
+    outcomes.put(told(row, &mut as_import, "package::a"));
+    let mut by_resolver = Preprocessor::new(held, starved_by_resolver);
+    outcomes.put(told(row, &mut by_resolver, "package::a"));
+    outcomes.end(row)
 }

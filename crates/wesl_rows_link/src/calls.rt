@@ -2,6 +2,7 @@
 use crate::{chains, links, manglers, names, packages, reasons, resolvers, tables};
 use serde_json::Value;
 use wesl_mangle::{EscapeMangler, NoMangler, UnicodeMangler};
+use wesl_resolve_base::NoResolver;
 use wesl_rows_base::Row;
 
 /// What the call of a row answers.
@@ -36,6 +37,8 @@ fn of_manglers(row: Row<'_>, call: &str) -> Value {
         "UnicodeMangler::unmangle" => manglers::read(row, &UnicodeMangler, row.text("name")),
         "UnicodeMangler::mangle_types" => manglers::written_variant(row),
         "HashMangler::mangle" => manglers::numbered(row),
+        "HashMangler::unmangle" => manglers::read_by_numbers(row),
+        "NoMangler::unmangle" => manglers::read(row, &NoMangler, row.text("name")),
         "EscapeMangler::mangle_types" => manglers::variant(row, &EscapeMangler),
         "NoMangler::mangle_types" => manglers::variant(row, &NoMangler),
         "HashMangler::mangle_types" => manglers::variant_of_numbers(row),
@@ -51,16 +54,22 @@ fn of_manglers(row: Row<'_>, call: &str) -> Value {
 /// Calls of resolvers.
 fn of_resolvers(row: Row<'_>, call: &str) -> Value {
     match call {
+        "NoResolver::resolve_source" => resolvers::source(row, NoResolver),
+        "NoResolver::resolve_module" => resolvers::module(row, NoResolver),
+        "NoResolver::display_name" => resolvers::name(row, NoResolver),
         "VirtualResolver::modules" => resolvers::listed(row, resolvers::holding(row)),
         "VirtualResolver::get_module" => resolvers::stored(row),
         "VirtualResolver::resolve_module" => resolvers::module(row, resolvers::holding(row)),
+        "VirtualResolver::display_name" => resolvers::name(row, resolvers::holding(row)),
         "VirtualResolver::add_module, or what stands" => resolvers::added_or_left(row),
-        "Router::resolve_source" => resolvers::routed(row),
+        "Router::resolve_source" => resolvers::source(row, resolvers::routing(row)),
+        "Router::resolve_module of mounts" => resolvers::module(row, resolvers::routing(row)),
         "Router::display_name" => resolvers::name(row, resolvers::unrouting(row)),
         "Router::resolve_module" => resolvers::module(row, resolvers::unrouting(row)),
         "Router::mount_resolver, or what stands" => resolvers::mounted_or_left(row),
         "PkgResolver::resolve_source" => resolvers::source(row, packages::packages(row)),
         "PkgResolver::resolve_module" => resolvers::module(row, packages::packages(row)),
+        "PkgResolver::display_name" => resolvers::name(row, packages::packages(row)),
         "PkgResolver::add_package, or what stands" => packages::added_or_left(row),
         "StandardResolver::resolve_source" => resolvers::source(row, packages::standard(row)),
         "StandardResolver::resolve_module" => resolvers::module(row, packages::standard(row)),

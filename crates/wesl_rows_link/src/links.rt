@@ -11,10 +11,10 @@ use wesl_rows_base::{List, Object, Row, is_refused, stands};
 use wesl_scope::names_clash;
 use wesl_tree::{Diagnostic, ModulePath, TranslationUnit};
 
-/// The linked unit as a tree: of an eager link the whole one, else the stripped one.
+/// The linked unit as a tree in the form of the row: of an eager link the whole one, else the stripped one.
 fn unit(row: Row<'_>, found: &Resolutions) -> Value {
     let strips = !found.is_eager();
-    row.tree_of(&row.unit_or_none(found.assemble(row.alloc, strips)))
+    row.written(&row.unit_or_none(found.assemble(row.alloc, strips)))
 }
 
 /// What is told of a link, with the paths of its modules in their order.

@@ -46,6 +46,11 @@ pub fn numbered(row: Row<'_>) -> Value {
     named(row, &mut HashMangler::new(Always(number)))
 }
 
+/// What a mangler of numbers, whose number of each item is 7, reads the name of a row as.
+pub fn read_by_numbers(row: Row<'_>) -> Value {
+    read(row, &HashMangler::new(Always(7)), row.text("name"))
+}
+
 /// What a mangler with a record reads the name of a row as, after it gave names to the items of the row.
 pub fn remembered(row: Row<'_>) -> Value {
     let mut mangler = CacheMangler::new(row.alloc, NoMangler);

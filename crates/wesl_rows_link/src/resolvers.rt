@@ -20,14 +20,14 @@ pub fn source<R: Resolver + Drop>(row: Row<'_>, resolver: R) -> Value
     }
 }
 
-/// The unit that a resolver gives for the path of a row.
+/// The unit that a resolver gives for the path of a row, in the form of the row.
 pub fn module<R: Resolver + Drop>(row: Row<'_>, resolver: R) -> Value
     requires { R.ready resolver }
 {
     let mut resolver = resolver;
     let path = row.rooted("path");
     match row.told(resolver.resolve_module(row.alloc, &path)) {
-        Ok(unit) => row.tree_of(&unit),
+        Ok(unit) => row.written(&unit),
         Err(fault) => fault,
     }
 }
@@ -142,8 +142,8 @@ fn mount(row: Row<'_>, at: &str, key: &str, router: &mut Router<VirtualResolver<
     row.done(router.mount_resolver(path, row.modules(key)));
 }
 
-/// The source that a router gives with two mounts and a fallback, or after a third mount, if the row has one.
-pub fn routed(row: Row<'_>) -> Value {
+/// A router with two mounts and a fallback, and after that with a third mount, if the row has one.
+pub fn routing(row: Row<'_>) -> Router<VirtualResolver<JsonText>> {
     let mut router = Router::new(row.alloc);
     mount(row, "first_at", "first", &mut router);
     mount(row, "second_at", "second", &mut router);
@@ -151,7 +151,7 @@ pub fn routed(row: Row<'_>) -> Value {
     if row.has("third") {
         mount(row, "third_at", "third", &mut router);
     }
-    source(row, router)
+    router
 }
 
 /// A router that has one mount, of a resolver without modules, and no fallback.

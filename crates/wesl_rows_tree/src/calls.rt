@@ -1,5 +1,5 @@
 //! The calls by their names.
-use crate::{copies, scopes, units, validators, visits};
+use crate::{copies, nodes, scopes, units, validators, visits};
 use serde_json::Value;
 use wesl_rows_base::{Row, names_value};
 use wesl_tree::TranslationUnit;
@@ -18,15 +18,19 @@ pub fn answered(row: Row<'_>) -> Value {
         "TranslationUnit::names" => names_value(row, row.tree().names()),
         "TranslationUnit::remove_voids" => units::without_voids(row),
         "TranslationUnit::try_clone" => copies::unit_copied(row),
+        "TryClone::try_clone of each node" => nodes::copied(row),
         "TranslationUnit::same_spelling"
         | "TranslationUnit::same_spans"
         | "== of the lists of units" => copies::compared(row),
         "Copying::attributes and Copying::statements" | "Copying::nodes" => {
             copies::lists_copied(row)
         }
-        "Visit::visit" | "Visit::visit_rec" | "Visit::rewrite" | "Visit::rewrite_rec" => {
-            visits::answered(row)
-        }
+        "Visit::visit"
+        | "Visit::visit_rec"
+        | "Visit::rewrite"
+        | "Visit::rewrite_rec"
+        | "Collect::collect with deep"
+        | "Holder::replace with deep" => visits::answered(row),
         call => of_scopes(row, call),
     }
 }

@@ -4,6 +4,7 @@
 
 mod calls;
 mod copies;
+mod nodes;
 mod scopes;
 mod units;
 mod validators;

@@ -7,7 +7,6 @@ ghost use Rattle.std.specs.Prelude.{◌≡◌};
 
 use serde_json::Value;
 use std::mem;
-use wesl_json::value_of_unit_2;
 use wesl_rows_base::{List, Object, Row, is_refused};
 use wesl_tree::{
     Attributes, Declaration, Error, Expression, ExpressionNode, GlobalDeclaration,
@@ -143,13 +142,15 @@ fn walk<T: Replace + Shown + Visit<T>, N: Visit<T>>(holder: &mut N, met: &mut Me
     }
 }
 
-/// Meets the lists of attributes below a holder, as the call of the row does.
+/// Meets the lists of attributes below a holder, as the call of the row does. None stands in another, so the deep calls meet
+/// the same, and `visit_rec` and `rewrite_rec` are there for the other kinds alone.
 fn walk_lists<N: Visit<Attributes>>(holder: &mut N, met: &mut Met) -> bool {
     let alloc = met.row.alloc;
-    if met.row.text("call") == "Visit::rewrite" {
-        is_refused(holder.rewrite(alloc, met))
-    } else {
-        met.all(holder.visit(alloc))
+    match met.row.text("call") {
+        "Visit::rewrite" => is_refused(holder.rewrite(alloc, met)),
+        "Holder::replace with deep" => !holder.replace::<Attributes, Met>(alloc, true, met),
+        "Collect::collect with deep" => met.all(holder.collect::<Attributes>(alloc, true)),
+        _ => met.all(holder.visit(alloc)),
     }
 }
 
@@ -299,15 +300,6 @@ fn walk_global(global: &mut GlobalDeclarationNode, met: &mut Met) -> bool {
     }
 }
 
-/// What is written of the unit that a row's became: with its places where the row's unit has them.
-fn written(row: Row<'_>, unit: &TranslationUnit) -> Value {
-    if row.part("unit").number("form", 1) == 2 {
-        row.or(value_of_unit_2(row.alloc, unit), Value::Null)
-    } else {
-        row.tree_of(unit)
-    }
-}
-
 /// What a visit of a row answers, whose holder is a whole unit, or its first global declaration or a part of that: what was
 /// met, and the unit afterwards.
 pub fn answered(row: Row<'_>) -> Value {
@@ -332,7 +324,7 @@ pub fn answered(row: Row<'_>) -> Value {
     }
     let mut answer = Object::new(row.alloc);
     answer.put("met", Value::Array(met.nodes));
-    answer.put("unit", written(row, &unit));
+    answer.put("unit", row.part("unit").written(&unit));
     if is_refused {
         answer.put("args", Value::Array(Vec::new(row.alloc)));
         answer.text("fault", "Memory");

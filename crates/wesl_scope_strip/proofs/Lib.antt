@@ -2,3 +2,4 @@ pub mod Marking
 pub mod Stepping
 pub mod Reaching
 pub mod Keeping
+mod Sets

@@ -1,4 +1,5 @@
 pub mod Declarations
 pub mod Marks
+pub mod Sets
 pub mod Steps
 pub mod Forests

@@ -1,39 +1,49 @@
 //! Which declarations are kept.
-ghost use Rattle.std.specs.Prelude.{◌≡◌, ◌+◌, ◌<◌, ◌↔◌, ℕ, Bool, true, false, not, ◌&&◌, ◌||◌, ◌==◌, length, map, bytes_eq, IfOk};
+ghost use Rattle.std.specs.Prelude.{◌≡◌, get_or, ◌+◌, ◌<◌, ◌↔◌, ℕ, Bool, true, false, not, ◌&&◌, ◌||◌, ◌==◌, length, map, bytes_eq, IfOk};
 ghost use Rattle.std.specs.List.{All, list_any};
 ghost use Rattle.wesl_tree_syntax.specs.Tree.{trees};
 ghost use Rattle.wesl_tree_syntax.specs.Unit.{name_in};
 ghost use Rattle.wesl_scope_occurrences.specs.Views.{occurrence_view};
 ghost use Rattle.wesl_scope_strip.specs.Declarations.{IsKept};
 ghost use Rattle.wesl_scope_strip.specs.Marks.{mark_at, has_name, names_here};
+ghost use Rattle.wesl_scope_strip.specs.Sets.{HasThese, is_text_of};
 ghost use Rattle.wesl_tree.specs.Translation.{unit_view};
 
 use crate::steps::steps_of;
 use std::alloc::{AllocError, Global};
+use std::collections::HashSet;
 use wesl_scope_graph::reach;
 use wesl_scope_occurrences::{Occurrence, occurrences};
 use wesl_tree::{Ident, Names, TranslationUnit};
 
-/// Whether one of these is the name.
-fn is_among(keep: &[&str], name: &str) -> bool
-    ensures { result ≡ list_any (λ k. bytes_eq k.now name.now) keep.now }
+/// The name at a place.
+fn name_at<'n>(keep: &[&'n str], place: usize) -> &'n str
+    requires { place < length keep.now }
+    ensures { result ≡ get_or keep.now place result }
 {
-    for kept in keep {
-        if *kept == name {
-            return true;
-        }
+    keep[place]
+}
+
+/// The names to be kept, as a set: of which many are asked, each costs one look-up.
+fn kept_names<'n>(alloc: Global, keep: &[&'n str]) -> Result<HashSet<&'n str>, AllocError>
+    ensures { IfOk result (HasThese keep.now) }
+{
+    let mut kept: HashSet<&str> = HashSet::new(alloc);
+    for i in 0..keep.len() {
+        kept.insert(name_at(keep, i))?;
     }
-    false
+    Ok(kept)
 }
 
 /// Of each number of the table, whether its name is to be kept.
 fn named(alloc: Global, names: &Names, keep: &[&str]) -> Result<Vec<bool>, AllocError>
     ensures all { IfOk result (λ wanted. length wanted.items ≡ length names.now) }
-    ensures marked { IfOk result (λ wanted. (m : ℕ) → m < length names.now → mark_at wanted.items m ≡ list_any (λ k. bytes_eq k.now (name_in names.now m)) keep.now) }
+    ensures marked { IfOk result (λ wanted. (m : ℕ) → m < length names.now → mark_at wanted.items m ≡ is_text_of keep.now (name_in names.now m)) }
 {
+    let kept = kept_names(alloc, keep)?;
     let mut wanted = Vec::with_capacity(alloc, names.len())?;
     for i in 0..names.len() {
-        wanted.push(is_among(keep, names.name(Ident(i))))?;
+        wanted.push(kept.contains(names.name(Ident(i))))?;
     }
     Ok(wanted)
 }

@@ -1,2 +1,14 @@
+pub use Rattle.wesl_tree_names.specs.Path
+pub use Rattle.wesl_tree_names.specs.Errors
+pub use Rattle.wesl_tree_syntax.specs.Tree
+pub use Rattle.wesl_tree_syntax.specs.Unit
+pub use Rattle.wesl_tree.specs.Translation
+pub use Rattle.wesl_mangle_forms.specs.Mangler
+pub use Rattle.wesl_resolve_base.specs.Resolver
+pub use Rattle.wesl_source_map_entries.specs.Records
+pub use Rattle.wesl_source_map_entries.specs.Held
+pub use Rattle.wesl_source_map_entries.specs.Listed
+pub use Rattle.wesl_source_map_entries.specs.Tables
 pub mod BasicView
 pub mod Recording
+pub mod Starting

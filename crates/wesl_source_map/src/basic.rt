@@ -8,6 +8,7 @@ ghost use Rattle.wesl_source_map_entries.specs.Tables.{items_in};
 
 use std::alloc::{AllocError, Global};
 use std::collections::BTreeMap;
+use std::mem::{replace, swap};
 use wesl_source_map_entries::{Entries, SourceMap, text_of};
 use wesl_tree_names::{Error, ModulePath};
 
@@ -121,6 +122,32 @@ impl BasicSourceMap {
             Ok(()) => Ok(decls),
             Err(_) => Err(Error::Memory),
         }
+    }
+
+    /// Takes the names out into a map of their own, which knows nothing else. It takes no memory.
+    pub fn take_decls(&mut self, alloc: Global) -> BasicSourceMap
+        ensures decls { items result ≡ items self.old }
+        ensures modules { (path : Path) → sources result path ≡ None }
+        ensures default { default_text result ≡ None }
+        ensures no_decls { (name : Text) → items self.new name ≡ None }
+        ensures kept_modules { sources self.new ≡ sources self.old }
+        ensures kept_default { default_text self.new ≡ default_text self.old }
+    {
+        let mut names = BasicSourceMap::new(alloc);
+        names.entries.decls = replace(&mut self.entries.decls, BTreeMap::new(alloc));
+        names
+    }
+
+    /// The names of this map, and what the other knows of modules. It takes no memory.
+    pub fn with_sources_of(self, other: BasicSourceMap) -> BasicSourceMap
+        ensures decls { items result ≡ items self }
+        ensures modules { sources result ≡ sources other }
+        ensures default { default_text result ≡ default_text other }
+    {
+        let mut names = self;
+        let mut map = other;
+        swap(&mut map.entries.decls, &mut names.entries.decls);
+        map
     }
 
     /// A map that knows the same. Refused for want of memory alone.

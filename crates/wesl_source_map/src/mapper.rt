@@ -7,6 +7,7 @@ ghost use Rattle.wesl_tree_names.specs.Path.{Text, Path, path_view, is_relative}
 ghost use Rattle.wesl_tree_names.specs.Errors.{OrMemory};
 ghost use Rattle.wesl_tree_names.specs.declared.errors.Error as error;
 ghost use Rattle.wesl_tree_names.specs.declared.errors.ResolveError as resolve_error;
+ghost use Rattle.wesl_mangle_forms.specs.Mangler.{ReadsOn};
 ghost use Rattle.wesl_resolve_base.specs.Resolver.{MeansTheSame};
 ghost use Rattle.wesl_source_map_entries.specs.Records.{WritesItem, SameItems, SameSources};
 ghost use Rattle.wesl_source_map_entries.specs.Held.{source_or};
@@ -214,7 +215,7 @@ impl<R, M: Mangler> Mangler for SourceMapper<R, M> {
 
     ghost recorded = { λ s. items s.sourcemap };
 
-    ghost writes = { true };
+    ghost writes = { λ _. true };
 
     ghost item_of = { λ s. M.item_of s.mangler };
 
@@ -233,6 +234,8 @@ impl<R, M: Mangler> Mangler for SourceMapper<R, M> {
         ensures same { (p : Path) (i : Text) → M.name_of self.new.mangler p i ≡ M.name_of self.old.mangler p i }
         ensures same_variants { (names : List Text) (i : Text) (n : ℕ) (ts : List Tree)
             → M.variant_of self.new.mangler names i n ts ≡ M.variant_of self.old.mangler names i n ts }
+        ensures reads { ReadsOn (M.name_of self.old.mangler (path_view path.now) item.now) (path_view path.now, item.now)
+            (M.item_of self.old.mangler) (M.item_of self.new.mangler) }
         ensures inner { OnOk result (HasNamedItem M.Mangler self.old.mangler self.new.mangler (path_view path.now, item.now)) }
         ensures inner_left { OnErr result (SameItems (M.recorded self.old.mangler) (M.recorded self.new.mangler)
             ⊎ HasNamedItem M.Mangler self.old.mangler self.new.mangler (path_view path.now, item.now)) }

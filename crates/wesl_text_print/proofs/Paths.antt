@@ -13,7 +13,7 @@ use Rattle.wesl_tree_names.specs.declared.path.PathOrigin.{PathOrigin}
 use Rattle.wesl_tree_syntax.specs.Tree.{end, path}
 
 -- two tests, and what stands behind one another
-provided_both : (a b : Bool) (ss us : List Slot) → followed (provided a ss) (provided b us) ≡ provided (a && b) (ss ++ us)
+pub provided_both : (a b : Bool) (ss us : List Slot) → followed (provided a ss) (provided b us) ≡ provided (a && b) (ss ++ us)
 provided_both true true ss us = refl
 provided_both true false ss us = refl
 provided_both false b ss us = refl

@@ -152,11 +152,7 @@ pub fn print_call<S: TokenSink>(out: &mut S, names: &Names, call: &FunctionCall)
 
 /// Prints expressions with commas between them.
 #[cycle(printing)]
-pub(crate) fn print_expressions<S: TokenSink>(
-    out: &mut S,
-    names: &Names,
-    nodes: &Vec<ExpressionNode>,
-)
+pub fn print_expressions<S: TokenSink>(out: &mut S, names: &Names, nodes: &Vec<ExpressionNode>)
     ensures { Prints S.after out.old out.new (comma_slots names.now an_expression (map expression_tree nodes.now.items)) }
 {
     let mut is_first = true;
@@ -169,7 +165,7 @@ pub(crate) fn print_expressions<S: TokenSink>(
 }
 
 /// Prints a comma before an item, unless it is the first one.
-pub(crate) fn print_comma<S: TokenSink>(out: &mut S, is_first: bool)
+pub fn print_comma<S: TokenSink>(out: &mut S, is_first: bool)
     ensures { Prints S.after out.old out.new (comma_unless is_first) }
 {
     if !is_first {
@@ -179,7 +175,7 @@ pub(crate) fn print_comma<S: TokenSink>(out: &mut S, is_first: bool)
 }
 
 /// Prints the comma that may stand behind items, unless there are none.
-pub(crate) fn end_commas<S: TokenSink>(out: &mut S, is_first: bool)
+pub fn end_commas<S: TokenSink>(out: &mut S, is_first: bool)
     ensures { Prints S.after out.old out.new (last_comma_unless is_first) }
 {
     if !is_first {
@@ -237,14 +233,14 @@ fn print_optional_path<S: TokenSink>(out: &mut S, path: &Option<Box<ModulePath>>
 }
 
 /// Prints the name of an identifier.
-pub(crate) fn print_name<S: TokenSink>(out: &mut S, names: &Names, ident: Ident)
+pub fn print_name<S: TokenSink>(out: &mut S, names: &Names, ident: Ident)
     ensures { Prints S.after out.old out.new (name_slots (name_in names.now ident.0)) }
 {
     out.name(spelling(names, ident));
 }
 
-// The name of an identifier, and the empty text of one that has none in the table.
-fn spelling<'a>(names: &'a Names, ident: Ident) -> &'a str
+/// The name of an identifier, and the empty text of one that has none in the table.
+pub fn spelling<'a>(names: &'a Names, ident: Ident) -> &'a str
     ensures { result.now ≡ name_in names.now ident.0 }
 {
     if ident.0 < names.len() {

@@ -300,7 +300,7 @@ pub(crate) fn takes_right(operator: BinaryOperator, operand: &Expression) -> boo
 }
 
 /// Whether an expression is no operation, or one of a unary operator.
-pub(crate) fn is_tight(operand: &Expression) -> bool
+pub fn is_tight(operand: &Expression) -> bool
     ensures { result ≡ is_tight_class (class_of (Some (expression_view operand.now).label)) }
 {
     match operand_class(operand) {

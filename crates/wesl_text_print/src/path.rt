@@ -30,16 +30,16 @@ fn print_origin<S: TokenSink>(out: &mut S, origin: &PathOrigin)
     }
 }
 
-// Prints a word with `::` behind it.
-fn print_step<S: TokenSink>(out: &mut S, word: &str)
+/// Prints a word with `::` behind it.
+pub fn print_step<S: TokenSink>(out: &mut S, word: &str)
     ensures { Prints S.after out.old out.new (Some (stepped (word.now ∷ []))) }
 {
     out.keyword(word);
     out.symbol(Symbol::ColonColon);
 }
 
-// Prints `self`, or `super` for each module above.
-fn print_relative<S: TokenSink>(out: &mut S, up: usize)
+/// Prints `self`, or `super` for each module above.
+pub fn print_relative<S: TokenSink>(out: &mut S, up: usize)
     ensures { Prints S.after out.old out.new (beginning_slots (relative up)) }
 {
     if up == 0 {
@@ -67,7 +67,7 @@ fn print_package<S: TokenSink>(out: &mut S, name: &str)
 }
 
 /// Prints names, each with `::` behind it.
-pub(crate) fn print_steps<S: TokenSink>(out: &mut S, steps: &Vec<String>)
+pub fn print_steps<S: TokenSink>(out: &mut S, steps: &Vec<String>)
     ensures { Prints S.after out.old out.new (leaf_slots some_steps (texts (map string_bytes steps.now.items)) end) }
 {
     for step in steps {

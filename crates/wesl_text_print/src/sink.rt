@@ -1,8 +1,12 @@
 //! What is given the tokens of a node, one after another.
 ghost use Rattle.std.specs.Prelude.{[], ◌∷◌, Some, None};
-ghost use Rattle.wesl_text_form.specs.Names.{is_name, is_number, is_word};
+ghost use Rattle.wesl_text_form.specs.Names.{are_names, is_name, is_number, is_word};
+ghost use Rattle.wesl_text_form.specs.Productions.{a_rule};
 ghost use Rattle.wesl_text_form.specs.Slots.{alone, may, must};
-ghost use Rattle.wesl_text_form.specs.Spelling.{Slots, followed, named, provided, signed};
+ghost use Rattle.wesl_text_form.specs.Spelling.{Slots, followed, leaf_slots, named, parted, provided, signed};
+ghost use Rattle.wesl_text_tokens.specs.declared.symbol.Symbol.TheVariants as sign;
+ghost use Rattle.wesl_tree_base.specs.Pieces.{cut, slash};
+ghost use Rattle.wesl_tree_syntax.specs.Tree.{end, text as text_label};
 ghost use Rattle.wesl_text_tokens.specs.Tokens.{number as number_token, symbol as symbol_token, open_list as open_token, close_list as close_token};
 
 use wesl_text_tokens::Symbol;
@@ -14,6 +18,30 @@ pub enum Unwritable {
     Operand,
     /// an empty template list (WGSL, "Template Lists")
     EmptyList,
+    /// an attribute of a name that has a node of its own, as one of another name (WGSL, "Attributes")
+    KnownAttribute,
+    /// no word, or more than two, in `@interpolate`
+    Words,
+    /// a third size of `@workgroup_size` without a second
+    Sizes,
+    /// what cannot be assigned to, increased or decreased (WGSL, "Assignment Statement")
+    Target,
+    /// an attribute without operands before `(`, which would begin its operands (WGSL, "Attributes")
+    OpenAttribute,
+    /// a clause of a `switch` without selectors (WGSL, "Switch Statement")
+    NoSelectors,
+    /// a statement that is no part of a `for` (WGSL, "For Statement")
+    ForPart,
+    /// an `override` in a function
+    Override,
+    /// a `let` outside of functions
+    Let,
+    /// a `const` or a `let` without a value
+    NoValue,
+    /// attributes of a result where there is none
+    NoResult,
+    /// `enable` or `requires` without a word (WGSL, "Directives")
+    NoWords,
 }
 
 /// What is given the tokens of a node. It notes the first fault, and then shows nothing of what follows.
@@ -32,6 +60,14 @@ pub trait TokenSink {
     /// A text that must be a name.
     fn name(&mut self, text: &str)
         ensures { after (provided (is_name text.now) (named text.now ∷ [])) self.old self.new };
+
+    /// The name of a package in an import: names with slashes between them.
+    fn package(&mut self, text: &str)
+        ensures { after (provided (are_names (cut slash text.now)) (parted sign.Slash (cut slash text.now))) self.old self.new };
+
+    /// The rule of a diagnostic: one word, or two with a `.` between them.
+    fn rule(&mut self, text: &str)
+        ensures { after (leaf_slots a_rule (text_label text.now) end) self.old self.new };
 
     /// A text that must be a number.
     fn number(&mut self, text: &str)

@@ -1,9 +1,9 @@
 -- Bodies of statements and of functions, and what ends a loop, are read where statements are.
 use Rattle.std.proofs.Common.{◌≡◌, ◌⊎◌, ℕ, zero, suc, true, ◌&&◌, List, ◌∷◌, Some, refl, sym as turned, inl, inr, ap, ◌∙◌, subst, codes}
-use Rattle.wesl_tree_syntax.specs.Tree.{kind, at, end, tree, compound, statements, break_if}
+use Rattle.wesl_tree_syntax.specs.Tree.{kind, at, end, tree, compound, continuing, statements, break_if}
 use Rattle.wesl_text_tokens.specs.declared.symbol.Symbol.TheVariants as is
 use Rattle.wesl_text_tokens.specs.Tokens.{Token, name, symbol}
-use Rattle.wesl_text_form.specs.Productions.{Sort, an_expression, an_attribute, a_body, a_break_if, a_statement, Row, nothing, sym, says, own, run, attrs, row_of}
+use Rattle.wesl_text_form.specs.Productions.{Sort, an_expression, an_attribute, a_body, a_break_if, a_continuing, a_statement, Row, nothing, sym, says, own, run, optional, inside, attrs, row_of}
 use Rattle.wesl_text_form.specs.Spelling.{Label, Forest, spells, first_slots, fits, stands_as}
 use Rattle.wesl_text_reading.specs.Reading.{Reader, node_of, node, any, behind_attributes, ranked, at_level, reading}
 use Rattle.wesl_text_reading.proofs.Filled.{no_some, fill}
@@ -14,7 +14,7 @@ use Rattle.wesl_text_reading.proofs.Operands.{Ended, only_row, own_first}
 use Rattle.wesl_text_reading.proofs.Complete.{ReadsSort, node_by, expression_reads}
 use Rattle.wesl_text_reading.proofs.Attributes.{row_word}
 use Rattle.wesl_text_reading.proofs.Runs.{Unopened, attributes_at}
-use Rattle.wesl_text_reading.proofs.Worded.{Apart, worded_ok, word_behind, attrs_first}
+use Rattle.wesl_text_reading.proofs.Worded.{Apart, worded_ok, word_behind, behind_them, attrs_first}
 
 abbrev pub Always : List Token → Type 0
 Always us = Unit {0}
@@ -50,10 +50,10 @@ break_if_is l r h = absurd (no_some r h)
 abbrev pub block_row : Row → Row
 block_row row = sym is.BraceLeft (run statements a_statement row)
 
-abbrev body_row : Row
+abbrev pub body_row : Row
 body_row = attrs (block_row (sym is.BraceRight nothing))
 
-body_is : (l : Label) (r : Row) → row_of a_body l ≡ Some r → (l ≡ kind compound) × (body_row ≡ r)
+pub body_is : (l : Label) (r : Row) → row_of a_body l ≡ Some r → (l ≡ kind compound) × (body_row ≡ r)
 body_is (kind k) r h = let x : (k ≡ compound) × (body_row ≡ r) = only_row compound body_row k r h in (ap (λ z. let l : Label = kind z in l) x.0, x.1)
 body_is (at k zero zero) r h = absurd (no_some r h)
 body_is (at k zero (suc e)) r h = absurd (no_some r h)
@@ -83,12 +83,42 @@ own_body_ended f row ts us h =
     let z : (vs : List Token) × ((ts ≡ symbol is.At ∷ vs) ⊎ (ts ≡ symbol is.BraceLeft ∷ vs)) = body_first y.0 y.1 ts y.3 y.5 in
     block_ended ts z.0 z.1
 
-brace_apart : (f : Forest) (row : Row) (ts us : List Token) → fill ((spells f).row (sym is.BraceLeft row)) ts ≡ Some us → Apart ts
+pub brace_apart : (f : Forest) (row : Row) (ts us : List Token) → fill ((spells f).row (sym is.BraceLeft row)) ts ≡ Some us → Apart ts
 brace_apart f row ts us h = let y : (vs : List Token) × (ts ≡ symbol is.BraceLeft ∷ vs) × (fill ((spells f).row row) vs ≡ Some us) = row_token f is.BraceLeft row ts us h in
     subst Apart (turned y.1) (refl, refl)
 
+-- ---- what a loop ends with
+
+abbrev pub ending_row : Row
+ending_row = inside compound (attrs (block_row nothing)) (optional (own a_break_if nothing) (sym is.BraceRight nothing))
+
+pub continuing_is : (l : Label) (r : Row) → row_of a_continuing l ≡ Some r → (l ≡ kind continuing) × (attrs (says (codes "continuing") ending_row) ≡ r)
+continuing_is (kind k) r h = let x : (k ≡ continuing) × (attrs (says (codes "continuing") ending_row) ≡ r) = only_row continuing (attrs (says (codes "continuing") ending_row)) k r h in (ap (λ z. let l : Label = kind z in l) x.0, x.1)
+continuing_is (at k zero zero) r h = absurd (no_some r h)
+continuing_is (at k zero (suc e)) r h = absurd (no_some r h)
+continuing_is (at k (suc s) e) r h = absurd (no_some r h)
+continuing_is l r h = absurd (no_some r h)
+
+module _ (child : Sort → Reader) (n : ℕ) (one_attribute : ReadsSort child n an_attribute Unopened (child an_attribute)) where
+  -- `{` stands behind the attributes of a body
+  pub body_behind : (l : Label) (c : Forest) (ts us : List Token) → fill (first_slots l c (spells c) a_body) ts ≡ Some us → Within n (tree l c end) → (vs : List Token) × (behind_attributes child ts ≡ symbol is.BraceLeft ∷ vs)
+  body_behind l c ts us h w =
+      let x : (r : Row) × (row_of a_body l ≡ Some r) × ((fits l c && stands_as a_body l c) ≡ true) × (fill ((spells c).row r) ts ≡ Some us) = first_parts l c (spells c) a_body ts us h in
+      let y : (o : Forest) × (vs : List Token) × (behind_attributes child ts ≡ vs) × (fill ((spells o).row (block_row (sym is.BraceRight nothing))) vs ≡ Some us) × Within n o
+      = behind_them child n one_attribute c (block_row (sym is.BraceRight nothing)) ts us (subst (λ z. fill ((spells c).row z) ts ≡ Some us) (turned (body_is l x.0 x.1).1) x.3) (within_below l c end n w) (λ o vs g u. brace_apart o (run statements a_statement (sym is.BraceRight nothing)) vs us g) in
+      let z : (vs : List Token) × (y.1 ≡ symbol is.BraceLeft ∷ vs) × (fill ((spells y.0).row (run statements a_statement (sym is.BraceRight nothing))) vs ≡ Some us) = row_token y.0 is.BraceLeft (run statements a_statement (sym is.BraceRight nothing)) y.1 us y.3 in
+      (z.0, y.2 ∙ z.1)
+
+  -- and `continuing` behind those of what a loop ends with
+  pub continuing_behind : (l : Label) (c : Forest) (ts us : List Token) → fill (first_slots l c (spells c) a_continuing) ts ≡ Some us → Within n c → (vs : List Token) × (behind_attributes child ts ≡ name (codes "continuing") ∷ vs)
+  continuing_behind l c ts us h w =
+      let x : (r : Row) × (row_of a_continuing l ≡ Some r) × ((fits l c && stands_as a_continuing l c) ≡ true) × (fill ((spells c).row r) ts ≡ Some us) = first_parts l c (spells c) a_continuing ts us h in
+      let y : (o : Forest) × (vs : List Token) × (behind_attributes child ts ≡ name (codes "continuing") ∷ vs) × (fill ((spells o).row ending_row) vs ≡ Some us)
+      = word_behind child n one_attribute c (codes "continuing") ending_row ts us (subst (λ z. fill ((spells c).row z) ts ≡ Some us) (turned (continuing_is l x.0 x.1).1) x.3) w in
+      (y.1, y.2)
+
 module _ (child : Sort → Reader) (n : ℕ) (one_attribute : ReadsSort child n an_attribute Unopened (child an_attribute)) (exprs : ReadsSort child n an_expression Ended (child an_expression)) where
-  break_if_reads : ReadsSort child n a_break_if Always (node child a_break_if)
+  pub break_if_reads : ReadsSort child n a_break_if Always (node child a_break_if)
   break_if_reads l c ts us h w e =
       node_by child n a_break_if l (kind break_if) c (attrs (says (codes "break") break_row)) Always ts us h refl (break_if_is l)
       (worded_ok child n one_attribute Always (codes "break") break_row
@@ -96,7 +126,7 @@ module _ (child : Sort → Reader) (n : ℕ) (one_attribute : ReadsSort child n 
       (within_below l c end n w) tt
 
   -- it ends the statements before it
-  break_behind : (l : Label) (c : Forest) (ts us : List Token) → fill (first_slots l c (spells c) a_break_if) ts ≡ Some us → Within n (tree l c end) → (vs : List Token) × (behind_attributes child ts ≡ name (codes "break") ∷ name (codes "if") ∷ vs)
+  pub break_behind : (l : Label) (c : Forest) (ts us : List Token) → fill (first_slots l c (spells c) a_break_if) ts ≡ Some us → Within n (tree l c end) → (vs : List Token) × (behind_attributes child ts ≡ name (codes "break") ∷ name (codes "if") ∷ vs)
   break_behind l c ts us h w =
       let x : (r : Row) × (row_of a_break_if l ≡ Some r) × ((fits l c && stands_as a_break_if l c) ≡ true) × (fill ((spells c).row r) ts ≡ Some us) = first_parts l c (spells c) a_break_if ts us h in
       let y : (o : Forest) × (vs : List Token) × (behind_attributes child ts ≡ name (codes "break") ∷ vs) × (fill ((spells o).row break_row) vs ≡ Some us)

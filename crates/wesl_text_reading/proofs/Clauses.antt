@@ -7,11 +7,11 @@ use Rattle.wesl_text_tokens.specs.Tokens.{Token, name, symbol}
 use Rattle.wesl_text_form.specs.Slots.{alone, same_token, comes_first, behind_if_there, behind_alone}
 use Rattle.wesl_text_form.specs.Productions.{Sort, an_expression, an_attribute, a_body, a_clause, a_selector, Row, nothing, may_sym, own, selectors, attrs, row_of, rows_of_selector}
 use Rattle.wesl_text_form.specs.Spelling.{Label, Forest, spells, followed, named, trailing, first_slots, fits, stands_as, is_kind, is_lone_default}
-use Rattle.wesl_text_reading.specs.FirstTokens.{begins_sign, begins_expression}
-use Rattle.wesl_text_reading.specs.Reading.{Reader, node_of, node, begins_child, lone_default, read_selectors}
+use Rattle.wesl_text_reading.specs.FirstTokens.{begins_sign, begins_sort, begins_expression}
+use Rattle.wesl_text_reading.specs.Reading.{Reader, node_of, node, behind_attributes, begins_child, lone_default, read_selectors}
 use Rattle.wesl_text_reading.proofs.Filled.{no_some, of_some, no_true, fill, parts, one, stands, same_is}
 use Rattle.wesl_text_reading.proofs.Takes.{and_parts, chosen, first_parts}
-use Rattle.wesl_text_reading.proofs.Within.{Within}
+use Rattle.wesl_text_reading.proofs.Within.{Within, within_below}
 use Rattle.wesl_text_reading.proofs.RowReads.{selector_slots}
 use Rattle.wesl_text_reading.proofs.Loops.{separate_reads}
 use Rattle.wesl_text_reading.proofs.Operands.{InRows, in_rows, Ended, only_row, own_first, begins_one}
@@ -19,7 +19,7 @@ use Rattle.wesl_text_reading.proofs.Complete.{ReadsSort, node_by}
 use Rattle.wesl_text_reading.proofs.Attributes.{row_word}
 use Rattle.wesl_text_reading.proofs.Runs.{Unopened}
 use Rattle.wesl_text_reading.proofs.KindsRead.{row_may}
-use Rattle.wesl_text_reading.proofs.Worded.{Apart, attrs_ok}
+use Rattle.wesl_text_reading.proofs.Worded.{Apart, attrs_ok, behind_them}
 use Rattle.wesl_text_reading.proofs.Blocks.{Always, body_first}
 
 -- a selector begins with `default` or with an expression
@@ -86,25 +86,38 @@ lone_is : (child : Sort → Reader) (c : Forest) → is_lone_default c ≡ true 
 lone_is child (tree (kind default_case) end end) h = refl
 lone_is child c h = absurd (no_true h)
 
--- selectors begin with a word
-selectors_apart : (f : Forest) (row : Row) (ts us : List Token) → fill ((spells f).row (selectors row)) ts ≡ Some us → Apart ts
-selectors_apart end row ts us h = absurd (no_some us h)
-selectors_apart (tree l c o) row ts us h = by (is_kind list (Some l)) (is_lone_default c) h where
-  alone_apart : (vs : List Token) → Alone ts vs → Apart ts
-  alone_apart vs (inl q) = subst Apart (turned q) (refl, refl)
-  alone_apart vs (inr q) = subst Apart (turned q.1) (refl, refl)
+-- selectors begin with `case` or `default`
+selectors_first : (f : Forest) (row : Row) (ts us : List Token) → fill ((spells f).row (selectors row)) ts ≡ Some us → (vs : List Token) × ((ts ≡ name (codes "case") ∷ vs) ⊎ (ts ≡ name (codes "default") ∷ vs))
+selectors_first end row ts us h = absurd (no_some us h)
+selectors_first (tree l c o) row ts us h = by (is_kind list (Some l)) (is_lone_default c) h where
+  lone : (vs : List Token) → Alone ts vs → (vs : List Token) × ((ts ≡ name (codes "case") ∷ vs) ⊎ (ts ≡ name (codes "default") ∷ vs))
+  lone vs (inl q) = (vs, inr q)
+  lone vs (inr q) = (name (codes "default") ∷ q.0, inl q.1)
 
-  by : (a b : Bool) → fill (if not a then None else if b then followed (Some (alone ∷ [])) ((spells o).row row) else followed (Some (named (codes "case") ∷ [])) (followed (option_map trailing ((spells c).separate a_selector)) ((spells o).row row))) ts ≡ Some us → Apart ts
+  by : (a b : Bool) → fill (if not a then None else if b then followed (Some (alone ∷ [])) ((spells o).row row) else followed (Some (named (codes "case") ∷ [])) (followed (option_map trailing ((spells c).separate a_selector)) ((spells o).row row))) ts ≡ Some us
+      → (vs : List Token) × ((ts ≡ name (codes "case") ∷ vs) ⊎ (ts ≡ name (codes "default") ∷ vs))
   by false b g = absurd (no_some us g)
-  by true true g = let x : (vs : List Token) × (fill (Some (alone ∷ [])) ts ≡ Some vs) × (fill ((spells o).row row) vs ≡ Some us) = parts (Some (alone ∷ [])) ((spells o).row row) ts us g in alone_apart x.0 (alone_is ts x.0 (one alone ts x.0 x.1))
+  by true true g = let x : (vs : List Token) × (fill (Some (alone ∷ [])) ts ≡ Some vs) × (fill ((spells o).row row) vs ≡ Some us) = parts (Some (alone ∷ [])) ((spells o).row row) ts us g in lone x.0 (alone_is ts x.0 (one alone ts x.0 x.1))
   by true false g =
       let x : (vs : List Token) × (fill (Some (named (codes "case") ∷ [])) ts ≡ Some vs) × (fill (followed (option_map trailing ((spells c).separate a_selector)) ((spells o).row row)) vs ≡ Some us) = parts (Some (named (codes "case") ∷ [])) (followed (option_map trailing ((spells c).separate a_selector)) ((spells o).row row)) ts us g in
-      subst Apart (turned (stands (name (codes "case")) ts x.0 (one (named (codes "case")) ts x.0 x.1))) (refl, refl)
+      (x.0, inl (stands (name (codes "case")) ts x.0 (one (named (codes "case")) ts x.0 x.1)))
+
+selectors_apart : (f : Forest) (row : Row) (ts us : List Token) → fill ((spells f).row (selectors row)) ts ≡ Some us → Apart ts
+selectors_apart f row ts us h = let x : (vs : List Token) × ((ts ≡ name (codes "case") ∷ vs) ⊎ (ts ≡ name (codes "default") ∷ vs)) = selectors_first f row ts us h in by x.0 x.1 where
+  by : (vs : List Token) → (ts ≡ name (codes "case") ∷ vs) ⊎ (ts ≡ name (codes "default") ∷ vs) → Apart ts
+  by vs (inl q) = subst Apart (turned q) (refl, refl)
+  by vs (inr q) = subst Apart (turned q) (refl, refl)
+
+selectors_begin : (f : Forest) (row : Row) (ts us : List Token) → fill ((spells f).row (selectors row)) ts ≡ Some us → begins_sort a_clause ts ≡ true
+selectors_begin f row ts us h = let x : (vs : List Token) × ((ts ≡ name (codes "case") ∷ vs) ⊎ (ts ≡ name (codes "default") ∷ vs)) = selectors_first f row ts us h in by x.0 x.1 where
+  by : (vs : List Token) → (ts ≡ name (codes "case") ∷ vs) ⊎ (ts ≡ name (codes "default") ∷ vs) → begins_sort a_clause ts ≡ true
+  by vs (inl q) = ap (λ z. begins_sort a_clause z) q
+  by vs (inr q) = ap (λ z. begins_sort a_clause z) q
 
 abbrev clause_row : Row
 clause_row = attrs (selectors behind_row)
 
-clause_is : (l : Label) (r : Row) → row_of a_clause l ≡ Some r → (l ≡ kind switch_clause) × (clause_row ≡ r)
+pub clause_is : (l : Label) (r : Row) → row_of a_clause l ≡ Some r → (l ≡ kind switch_clause) × (clause_row ≡ r)
 clause_is (kind k) r h = let x : (k ≡ switch_clause) × (clause_row ≡ r) = only_row switch_clause clause_row k r h in (ap (λ z. let l : Label = kind z in l) x.0, x.1)
 clause_is (at k zero zero) r h = absurd (no_some r h)
 clause_is (at k zero (suc e)) r h = absurd (no_some r h)
@@ -135,3 +148,12 @@ module _ (child : Sort → Reader) (n : ℕ) (one_attribute : ReadsSort child n 
       node_by child n a_clause l (kind switch_clause) c clause_row Always ts us h refl (clause_is l)
       (attrs_ok child n one_attribute Always (selectors behind_row) (λ f vs us g u k. selectors_apart f behind_row vs us g)
       ((λ c ts vs h w more. selectors_read c ts vs h w (behind_selectors more.0 vs more.1 more.2)), ((λ l c ts vs g v more. bodies l c ts vs g v tt), tt))) w tt
+
+module _ (child : Sort → Reader) (n : ℕ) (one_attribute : ReadsSort child n an_attribute Unopened (child an_attribute)) where
+  -- a clause begins with `case` or `default`, behind its attributes
+  pub clause_begins : (l : Label) (c : Forest) (ts us : List Token) → fill (first_slots l c (spells c) a_clause) ts ≡ Some us → Within n (tree l c end) → begins_child child a_clause ts ≡ true
+  clause_begins l c ts us h w =
+      let x : (r : Row) × (row_of a_clause l ≡ Some r) × ((fits l c && stands_as a_clause l c) ≡ true) × (fill ((spells c).row r) ts ≡ Some us) = first_parts l c (spells c) a_clause ts us h in
+      let y : (o : Forest) × (vs : List Token) × (behind_attributes child ts ≡ vs) × (fill ((spells o).row (selectors behind_row)) vs ≡ Some us) × Within n o
+      = behind_them child n one_attribute c (selectors behind_row) ts us (subst (λ z. fill ((spells c).row z) ts ≡ Some us) (turned (clause_is l x.0 x.1).1) x.3) (within_below l c end n w) (λ o vs g u. selectors_apart o behind_row vs us g) in
+      ap (λ z. begins_sort a_clause z) y.2 ∙ selectors_begin y.0 behind_row y.1 us y.3

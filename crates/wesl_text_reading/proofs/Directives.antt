@@ -75,10 +75,10 @@ module _ (child : Sort → Reader) (n : ℕ) where
   abbrev end_row : Row
   end_row = may_sym is.Comma (sym is.ParenRight (sym is.Semicolon nothing))
 
-  abbrev rule_row : Row
+  abbrev pub rule_row : Row
   rule_row = sym is.ParenLeft (leaf a_word (sym is.Comma (leaf a_rule end_row)))
 
-  abbrev words_row : Row
+  abbrev pub words_row : Row
   words_row = leaf some_words (sym is.Semicolon nothing)
 
   rule_ok : RowOk child (read_part child) n Always rule_row
@@ -111,7 +111,7 @@ module _ (child : Sort → Reader) (n : ℕ) where
     of_row k c r ts us o f h w (inr (inr (inl q))) = known_directive k (codes "requires") words_row c r ts us (ap (λ z. Some (kind z)) (turned q.0)) q.1 o f h words_ok w
     of_row k c r ts us o f h w (inr (inr (inr q))) = absurd q
 
-    bare_directive_reads : ReadsSort child n a_bare_directive Always (node child a_bare_directive)
+    pub bare_directive_reads : ReadsSort child n a_bare_directive Always (node child a_bare_directive)
     bare_directive_reads (kind k) c ts us h w e =
         let x : (r : Row) × (row_of {I = Text} a_bare_directive (kind k) ≡ Some r) × ((fits (kind k) c && stands_as a_bare_directive (kind k) c) ≡ true) × (fill ((spells c).row r) ts ≡ Some us) = first_parts (kind k) c (spells c) a_bare_directive ts us h in
         of_row k c x.0 ts us x.1 x.2 x.3 (within_below (kind k) c end n w) (in_rows rows_of_bare_directive k x.0 x.1)
@@ -120,7 +120,7 @@ module _ (child : Sort → Reader) (n : ℕ) where
     bare_directive_reads (at k (suc s) f) c ts us h w e = absurd (no_some us h)
     bare_directive_reads l c ts us h w e = absurd (no_some us h)
 
-  directive_is : (l : Label) (r : Row) → row_of a_directive l ≡ Some r → (l ≡ at directive_node 0 0) × (own a_bare_directive nothing ≡ r)
+  pub directive_is : (l : Label) (r : Row) → row_of a_directive l ≡ Some r → (l ≡ at directive_node 0 0) × (own a_bare_directive nothing ≡ r)
   directive_is (at k zero zero) r h = by (same_kind directive_node k) refl h where
     by : (b : Bool) → same_kind directive_node k ≡ b → (if b then Some (own a_bare_directive nothing) else None) ≡ Some r → ((let l : Label = at k 0 0 in l) ≡ at directive_node 0 0) × (own a_bare_directive nothing ≡ r)
     by true e g = (ap (λ z. let l : Label = at z 0 0 in l) (turned (kind_is directive_node k e)), of_some (own a_bare_directive nothing) r g)

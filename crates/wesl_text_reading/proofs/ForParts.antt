@@ -13,7 +13,7 @@ use Rattle.wesl_text_form.specs.Operators.{assignment_symbol}
 use Rattle.wesl_text_form.specs.Productions.{Sort, an_expression, an_attribute, a_call, a_kind, a_type, a_statement, a_bare_statement, an_ident, Row, nothing, sym, own, leaf, optional, target, attrs, row_of}
 use Rattle.wesl_text_form.specs.Spelling.{Label, Forest, Slots, spells, followed, first_slots, fits, stands_as, is_simple, is_kind, label_at, are_apart, is_target_at, without_last}
 use Rattle.wesl_text_reading.specs.Leaves.{Read, after, where_so}
-use Rattle.wesl_text_reading.specs.FirstTokens.{label_behind_expression}
+use Rattle.wesl_text_reading.specs.FirstTokens.{label_behind_expression, begins_part, begins_sign}
 use Rattle.wesl_text_reading.specs.Reading.{Reader, node_of, label_of_statement, read_row, read_node, read_part, without_end}
 use Rattle.wesl_text_reading.proofs.Filled.{no_some, of_some, no_true, fill}
 use Rattle.wesl_text_reading.proofs.Takes.{and_parts}
@@ -62,7 +62,7 @@ unended_one end ts us h = absurd (no_some us h)
 unended_one (tree j d end) ts us h = (j, d, refl, ap (λ z. fill (option_map without_last z) ts) (turned (alone_again (first_slots j d (spells d) a_bare_statement))) ∙ h)
 unended_one (tree j d (tree k e o)) ts us h = absurd (no_some us (ap (λ z. fill (option_map without_last z) ts) (turned (no_slots (first_slots j d (spells d) a_bare_statement))) ∙ h))
 
-statement_is : (l : Label) (r : Row) → row_of a_statement l ≡ Some r → (l ≡ at statement_node 0 0) × (own a_bare_statement nothing ≡ r)
+pub statement_is : (l : Label) (r : Row) → row_of a_statement l ≡ Some r → (l ≡ at statement_node 0 0) × (own a_bare_statement nothing ≡ r)
 statement_is (at k zero zero) r h = by (same_kind statement_node k) refl h where
   by : (b : Bool) → same_kind statement_node k ≡ b → (if b then Some (own a_bare_statement nothing) else None) ≡ Some r → ((let l : Label = at k 0 0 in l) ≡ at statement_node 0 0) × (own a_bare_statement nothing ≡ r)
   by true e g = (ap (λ z. let l : Label = at z 0 0 in l) (turned (kind_is statement_node k e)), of_some (own a_bare_statement nothing) r g)
@@ -70,29 +70,42 @@ statement_is (at k zero zero) r h = by (same_kind statement_node k) refl h where
 statement_is (kind k) r h = absurd (no_some r h)
 statement_is l r h = absurd (no_some r h)
 
+-- no part begins with `;` or `)`
+part_begins : (child : Sort → Reader) (j : Label) (ts : List Token) → Begun child j ts → is_simple (Some j) ≡ true → begins_part ts ≡ true
+part_begins child j [] b s = refl
+part_begins child j (symbol is.Semicolon ∷ ts) b s = absurd (no_true (ap (λ z. is_simple z) (ap (λ z. label_of_statement child z) b.1 ∙ b.2) ∙ s))
+part_begins child j (symbol is.ParenRight ∷ ts) b s = absurd (no_true (turned (ap (λ z. begins_sign is.ParenRight z) b.1 ∙ b.3.2)))
+part_begins child j (t ∷ ts) b s = refl
+
 module _ (child : Sort → Reader) (n : ℕ) (parted : ReadsParted child n (child an_attribute)) (exprs : ReadsSort child n an_expression Ended (child an_expression))
     (kinds : ReadsSort child n a_kind NoList (child a_kind)) (types : ReadsSort child n a_type Ends (child a_type)) (calls : ReadsSort child n a_call (λ us. Unit {0}) (child a_call)) where
+  -- a part that is read, and begins where one does
+  abbrev PartRead : Label → Forest → List Token → List Token → Type 0
+  PartRead j d ts us = (begins_part ts ≡ true) × (read_part child a_statement ts ≡ Some (node_of (at statement_node 0 0) (tree j d end), us))
+
   -- reads no part of a part
   abbrev no_part : Sort → Reader
   no_part t us = None
 
   -- a simple statement is read where its label is told and its row is read
   from_row : (j : Label) (d : Forest) (r : Row) (ts us : List Token) → row_of a_bare_statement j ≡ Some r → (fits j d && stands_as a_bare_statement j d) ≡ true → is_simple (Some j) ≡ true → Begun child j ts → read_row child no_part (without_end child r) ts ≡ Some (d, us)
-      → read_part child a_statement ts ≡ Some (node_of (at statement_node 0 0) (tree j d end), us)
-  from_row j d r ts us o f s b e =
-      ap (λ z. elim z as (λ _. Read (TreeOf Text)) [
-        | None ↦ None
-        | Some l ↦ if is_simple (Some l) then after (read_node child (λ row. read_row child no_part (without_end child row)) a_bare_statement (Some l) ts) (λ t us. Some (node_of (at statement_node 0 0) (before t end), us)) else None
-      ]) (ap (λ z. label_of_statement child z) b.1 ∙ b.2)
-      ∙ (ap (λ z. if z then after (read_node child (λ row. read_row child no_part (without_end child row)) a_bare_statement (Some j) ts) (λ t us. Some (node_of (at statement_node 0 0) (before t end), us)) else None) s
-      ∙ (ap (λ z. after (option_and_then (λ row. after (read_row child no_part (without_end child row) ts) (λ f us. where_so (fits j f && stands_as a_bare_statement j f) (node_of j f) us)) z) (λ t us. Some (node_of (at statement_node 0 0) (before t end), us))) o
-      ∙ (ap (λ z. after (after z (λ f us. where_so (fits j f && stands_as a_bare_statement j f) (node_of j f) us)) (λ t us. Some (node_of (at statement_node 0 0) (before t end), us))) e
-      ∙ ap (λ z. after (where_so z (node_of j d) us) (λ t us. Some (node_of (at statement_node 0 0) (before t end), us))) f)))
+      → PartRead j d ts us
+  from_row j d r ts us o f s b e = (
+    part_begins child j ts b s,
+    ap (λ z. elim z as (λ _. Read (TreeOf Text)) [
+      | None ↦ None
+      | Some l ↦ if is_simple (Some l) then after (read_node child (λ row. read_row child no_part (without_end child row)) a_bare_statement (Some l) ts) (λ t us. Some (node_of (at statement_node 0 0) (before t end), us)) else None
+    ]) (ap (λ z. label_of_statement child z) b.1 ∙ b.2)
+        ∙ (ap (λ z. if z then after (read_node child (λ row. read_row child no_part (without_end child row)) a_bare_statement (Some j) ts) (λ t us. Some (node_of (at statement_node 0 0) (before t end), us)) else None) s
+        ∙ (ap (λ z. after (option_and_then (λ row. after (read_row child no_part (without_end child row) ts) (λ f us. where_so (fits j f && stands_as a_bare_statement j f) (node_of j f) us)) z) (λ t us. Some (node_of (at statement_node 0 0) (before t end), us))) o
+        ∙ (ap (λ z. after (after z (λ f us. where_so (fits j f && stands_as a_bare_statement j f) (node_of j f) us)) (λ t us. Some (node_of (at statement_node 0 0) (before t end), us))) e
+        ∙ ap (λ z. after (where_so z (node_of j d) us) (λ t us. Some (node_of (at statement_node 0 0) (before t end), us))) f))),
+  )
 
   -- the same by the row of its label
   with_row : (j : Label) (d : Forest) (row : Row) (ts us : List Token) → row_of a_bare_statement j ≡ Some row → ends_with row ≡ true → is_simple (Some j) ≡ true → fill (option_map without_last (first_slots j d (spells d) a_bare_statement)) ts ≡ Some us
       → ((fits j d && stands_as a_bare_statement j d) ≡ true → fill ((spells d).row (without_end child row)) ts ≡ Some us → Begun child j ts × (read_row child no_part (without_end child row) ts ≡ Some (d, us)))
-      → read_part child a_statement ts ≡ Some (node_of (at statement_node 0 0) (tree j d end), us)
+      → PartRead j d ts us
   with_row j d row ts us o e s h f =
       let x : (r : Row) × (row_of a_bare_statement j ≡ Some r) × ((fits j d && stands_as a_bare_statement j d) ≡ true) × (fill (option_map without_last ((spells d).row r)) ts ≡ Some us) = unended_parts j d a_bare_statement ts us h in
       let q : row ≡ x.0 = of_some row x.0 (turned o ∙ x.1) in
@@ -106,7 +119,7 @@ module _ (child : Sort → Reader) (n : ℕ) (parted : ReadsParted child n (chil
   -- a target, a symbol and what is behind it, without `;`
   target_part : (j : Label) (d : Forest) (s : Symbol) (rest last : Row) (ts us : List Token) → row_of a_bare_statement j ≡ Some (attrs (own an_expression (sym s last))) → ends_with (attrs (own an_expression (sym s last))) ≡ true → without_end child (sym s last) ≡ sym s rest → is_simple (Some j) ≡ true
       → ((vs : List Token) → Ended (symbol s ∷ vs)) → ((vs : List Token) → label_behind_expression (symbol s ∷ vs) ≡ Some j) → RowOk child no_part n Tail rest → ((fits j d && stands_as a_bare_statement j d) ≡ true → (is_target_at 1 d && are_apart d) ≡ true)
-      → fill (option_map without_last (first_slots j d (spells d) a_bare_statement)) ts ≡ Some us → Within n d → Tail us → read_part child a_statement ts ≡ Some (node_of (at statement_node 0 0) (tree j d end), us)
+      → fill (option_map without_last (first_slots j d (spells d) a_bare_statement)) ts ≡ Some us → Within n d → Tail us → PartRead j d ts us
   target_part j d s rest last ts us o e q i ends tells ok f h w t =
       with_row j d (attrs (own an_expression (sym s last))) ts us o e i h (λ g k.
       let y : Begun child j ts × (Tail us → read_row child no_part (attrs (own an_expression (sym s rest))) ts ≡ Some (d, us))
@@ -118,13 +131,13 @@ module _ (child : Sort → Reader) (n : ℕ) (parted : ReadsParted child n (chil
 
   assigned : (o : AssignmentOperator) (d : Forest) (ts us : List Token) → row_of {I = Text} a_bare_statement (assignment o) ≡ Some (attrs (own an_expression (sym (assignment_symbol o) (own an_expression (sym is.Semicolon nothing))))) → ends_with (attrs (own an_expression (sym (assignment_symbol o) (own an_expression (sym is.Semicolon nothing))))) ≡ true
       → ((fits (assignment o) d && stands_as a_bare_statement (assignment o) d) ≡ true → (is_target_at 1 d && are_apart d) ≡ true) → fill (option_map without_last (first_slots (assignment o) d (spells d) a_bare_statement)) ts ≡ Some us → Within n d → Tail us
-      → read_part child a_statement ts ≡ Some (node_of (at statement_node 0 0) (tree (assignment o) d end), us)
+      → PartRead (assignment o) d ts us
   assigned o d ts us r e f h w t = target_part (assignment o) d (assignment_symbol o) (own an_expression nothing) (own an_expression (sym is.Semicolon nothing)) ts us r e refl refl (assignment_ends o) (assignment_tells o) value_ok f h w t
 
   fit : (d : Forest) → ((is_target_at 1 d && are_apart d) && true) ≡ true → (is_target_at 1 d && are_apart d) ≡ true
   fit d f = (and_parts (is_target_at 1 d && are_apart d) true f).0
 
-  assignment_part : (o : AssignmentOperator) (d : Forest) (ts us : List Token) → fill (option_map without_last (first_slots (assignment o) d (spells d) a_bare_statement)) ts ≡ Some us → Within n d → Tail us → read_part child a_statement ts ≡ Some (node_of (at statement_node 0 0) (tree (assignment o) d end), us)
+  assignment_part : (o : AssignmentOperator) (d : Forest) (ts us : List Token) → fill (option_map without_last (first_slots (assignment o) d (spells d) a_bare_statement)) ts ≡ Some us → Within n d → Tail us → PartRead (assignment o) d ts us
   assignment_part assignment_operator.Equal d ts us h w t =
       with_row (assignment assignment_operator.Equal) d (attrs (target (sym is.Equal (own an_expression (sym is.Semicolon nothing))))) ts us refl refl refl h (λ f k.
       let y : Begun child (assignment assignment_operator.Equal) ts × (Tail us → read_row child no_part (attrs (target (sym is.Equal (own an_expression nothing)))) ts ≡ Some (d, us))
@@ -143,7 +156,7 @@ module _ (child : Sort → Reader) (n : ℕ) (parted : ReadsParted child n (chil
 
   -- those of the other kinds
   abbrev Part : Kind → Type 0
-  Part k = (d : Forest) (ts us : List Token) → fill (option_map without_last (first_slots (kind k) d (spells d) a_bare_statement)) ts ≡ Some us → Within n (tree (kind k) d end) → Tail us → read_part child a_statement ts ≡ Some (node_of (at statement_node 0 0) (tree (kind k) d end), us)
+  Part k = (d : Forest) (ts us : List Token) → fill (option_map without_last (first_slots (kind k) d (spells d) a_bare_statement)) ts ≡ Some us → Within n (tree (kind k) d end) → Tail us → PartRead (kind k) d ts us
 
   increment_part : Part increment
   increment_part d ts us h w t = target_part (kind increment) d is.PlusPlus nothing (sym is.Semicolon nothing) ts us refl refl refl refl (λ vs. (refl, ((refl, refl), refl), refl)) (λ vs. refl) tt (fit d) h (within_below (kind increment) d end n w) t
@@ -175,16 +188,16 @@ module _ (child : Sort → Reader) (n : ℕ) (parted : ReadsParted child n (chil
     by false false false false p q r u z = absurd (no_true z)
 
   bare_part_reads : (j : Label) (d : Forest) (ts us : List Token) → fill (option_map without_last (first_slots j d (spells d) a_bare_statement)) ts ≡ Some us → Within n (tree j d end) → is_simple (Some j) ≡ true → Tail us
-      → read_part child a_statement ts ≡ Some (node_of (at statement_node 0 0) (tree j d end), us)
+      → PartRead j d ts us
   bare_part_reads (assignment o) d ts us h w s t = assignment_part o d ts us h (within_below (assignment o) d end n w) t
   bare_part_reads (kind k) d ts us h w s t = kind_part k s d ts us h w t
   bare_part_reads l d ts us h w s t = absurd (no_true s)
 
   -- a part of `for` is read
-  pub part_reads : (l : Label) (c : Forest) (ts us : List Token) → fill (option_map without_last (first_slots l c (spells c) a_statement)) ts ≡ Some us → Within n (tree l c end) → is_simple (label_at 0 c) ≡ true → Tail us → read_part child a_statement ts ≡ Some (node_of l c, us)
+  pub part_reads : (l : Label) (c : Forest) (ts us : List Token) → fill (option_map without_last (first_slots l c (spells c) a_statement)) ts ≡ Some us → Within n (tree l c end) → is_simple (label_at 0 c) ≡ true → Tail us → (begins_part ts ≡ true) × (read_part child a_statement ts ≡ Some (node_of l c, us))
   part_reads l c ts us h w s t =
       let x : (r : Row) × (row_of a_statement l ≡ Some r) × ((fits l c && stands_as a_statement l c) ≡ true) × (fill (option_map without_last ((spells c).row r)) ts ≡ Some us) = unended_parts l c a_statement ts us h in
       let z : (l ≡ at statement_node 0 0) × (own a_bare_statement nothing ≡ x.0) = statement_is l x.0 x.1 in
       let y : (j : Label) × (d : Forest) × (c ≡ tree j d end) × (fill (option_map without_last (first_slots j d (spells d) a_bare_statement)) ts ≡ Some us) = unended_one c ts us (subst (λ z. fill (option_map without_last ((spells c).row z)) ts ≡ Some us) (turned z.1) x.3) in
-      bare_part_reads y.0 y.1 ts us y.3 (subst (λ a. Within n a) y.2 (within_below l c end n w)) (ap (λ a. is_simple (label_at 0 a)) (turned y.2) ∙ s) t
-      ∙ (ap (λ a. Some (node_of (at statement_node 0 0) a, us)) (turned y.2) ∙ ap (λ a. Some (node_of a c, us)) (turned z.0))
+      let p : PartRead y.0 y.1 ts us = bare_part_reads y.0 y.1 ts us y.3 (subst (λ a. Within n a) y.2 (within_below l c end n w)) (ap (λ a. is_simple (label_at 0 a)) (turned y.2) ∙ s) t in
+      (p.0, p.1 ∙ (ap (λ a. Some (node_of (at statement_node 0 0) a, us)) (turned y.2) ∙ ap (λ a. Some (node_of a c, us)) (turned z.0)))

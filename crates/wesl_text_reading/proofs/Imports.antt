@@ -41,7 +41,10 @@ slashed_all a (b ∷ ws) ts vs xs h q =
     let y : (us : List Token) × (ts ≡ name a ∷ us) × (left (signed is.Slash ∷ parted is.Slash (b ∷ ws)) us ≡ Some vs) = must_first (name a) (signed is.Slash ∷ parted is.Slash (b ∷ ws)) ts vs h in
     let z : (us : List Token) × (y.0 ≡ symbol is.Slash ∷ us) × (left (parted is.Slash (b ∷ ws)) us ≡ Some vs) = must_first (symbol is.Slash) (parted is.Slash (b ∷ ws)) y.0 vs y.2 in
     let e : ts ≡ name a ∷ symbol is.Slash ∷ z.0 = y.1 ∙ ap (λ s. name a ∷ s) z.1 in
-    (ap (λ s. begins_path true s) e, ap slashed e ∙ ap (λ s. let p : Text × List Token = (a ++ slash ∷ s.0, s.1) in p) (slashed_all b ws z.0 vs xs z.2 q).1)
+    more z.0 e (slashed_all b ws z.0 vs xs z.2 q) where
+      more : (us : List Token) → ts ≡ name a ∷ symbol is.Slash ∷ us → (begins_path true us ≡ true) × (slashed us ≡ (with_between slash (b ∷ ws), symbol is.ColonColon ∷ xs)) → (begins_path true ts ≡ true) × (slashed ts ≡ (with_between slash (a ∷ b ∷ ws), symbol is.ColonColon ∷ xs))
+      more (name u ∷ us) e g = (ap (λ s. begins_path true s) e, ap slashed e ∙ ap (λ s. let p : Text × List Token = (a ++ slash ∷ s.0, s.1) in p) g.1)
+      more us e g = absurd (no_true g.0)
 
 -- a name of free words between slashes is none of these
 not_among : (q u : Text) → are_free (cut slash q) ≡ true → are_free (cut slash u) ≡ false → bytes_eq q u ≡ false
@@ -282,7 +285,7 @@ module _ (child : Sort → Reader) (n : ℕ) where
   abbrev from_row : Row
   from_row = own a_content (sym is.Semicolon nothing)
 
-  abbrev import_row : Row
+  abbrev pub import_row : Row
   import_row = optional (leaf (a_path true) nothing) from_row
 
   -- no step goes on to what is brought in
@@ -301,19 +304,19 @@ module _ (child : Sort → Reader) (n : ℕ) where
     ),
   )
 
-  import_label : (l : Label) (r : Row) → row_of a_bare_import l ≡ Some r → (l ≡ kind import_statement) × (attrs (says (codes "import") import_row) ≡ r)
+  pub import_label : (l : Label) (r : Row) → row_of a_bare_import l ≡ Some r → (l ≡ kind import_statement) × (attrs (says (codes "import") import_row) ≡ r)
   import_label (kind k) r h = let x : (k ≡ import_statement) × (attrs (says (codes "import") import_row) ≡ r) = only_row import_statement (attrs (says (codes "import") import_row)) k r h in (ap (λ z. let l : Label = kind z in l) x.0, x.1)
   import_label (at k zero zero) r h = absurd (no_some r h)
   import_label (at k zero (suc e)) r h = absurd (no_some r h)
   import_label (at k (suc s) e) r h = absurd (no_some r h)
   import_label l r h = absurd (no_some r h)
 
-  bare_import_reads : ReadsSort child n an_attribute Unopened (child an_attribute) → ReadsSort child n a_content Behind (child a_content) → ReadsSort child n a_bare_import Always (node child a_bare_import)
+  pub bare_import_reads : ReadsSort child n an_attribute Unopened (child an_attribute) → ReadsSort child n a_content Behind (child a_content) → ReadsSort child n a_bare_import Always (node child a_bare_import)
   bare_import_reads one_attribute contents l c ts us h w e =
       node_by child n a_bare_import l (kind import_statement) c (attrs (says (codes "import") import_row)) Always ts us h refl (import_label l)
       (worded_ok child n one_attribute Always (codes "import") import_row (import_ok contents)) (within_below l c end n w) tt
 
-  import_is : (l : Label) (r : Row) → row_of an_import l ≡ Some r → (l ≡ at import_node 0 0) × (own a_bare_import nothing ≡ r)
+  pub import_is : (l : Label) (r : Row) → row_of an_import l ≡ Some r → (l ≡ at import_node 0 0) × (own a_bare_import nothing ≡ r)
   import_is (at k zero zero) r h = by (same_kind import_node k) refl h where
     by : (b : Bool) → same_kind import_node k ≡ b → (if b then Some (own a_bare_import nothing) else None) ≡ Some r → ((let l : Label = at k 0 0 in l) ≡ at import_node 0 0) × (own a_bare_import nothing ≡ r)
     by true e g = (ap (λ z. let l : Label = at z 0 0 in l) (turned (kind_is import_node k e)), of_some (own a_bare_import nothing) r g)

@@ -13,6 +13,7 @@ pub mod Complete
 pub mod Promises
 pub mod Attributes
 pub mod Runs
+pub mod Deeper
 pub mod KindsRead
 pub mod Worded
 pub mod Directives
@@ -28,3 +29,9 @@ pub mod ForParts
 pub mod Branches
 pub mod Clauses
 pub mod Statements
+pub mod ForLoop
+pub mod BareStatements
+pub mod Bodies
+pub mod Levels
+pub mod Declarations
+pub mod Units

@@ -52,7 +52,9 @@ module _ (child part : Sort → Reader) (n : ℕ) where
   RowOk C (target row) = ((l : Label) (c : Forest) (ts vs : List Token) → fill (target_slots l c) ts ≡ Some vs → Within n (tree l c end) → Rest C row vs → read_target child ts ≡ Some (node_of l c, vs)) × RowOk C row
   RowOk C (selectors row) = ((c : Forest) (ts vs : List Token) → fill (selector_slots c) ts ≡ Some vs → Within n c → Rest C row vs → read_selectors child ts ≡ Some (c, vs)) × RowOk C row
   RowOk C (unended s row) = ((l : Label) (c : Forest) (ts vs : List Token) → fill (option_map without_last (first_slots l c (spells c) s)) ts ≡ Some vs → Within n (tree l c end) → Rest C row vs → part s ts ≡ Some (node_of l c, vs)) × RowOk C row
-  RowOk C (arrow (run k s row)) = ((vs : List Token) → Rest C row vs → begins_sign is.Arrow vs ≡ false) × RowOk C (run k s row)
+  RowOk C (arrow (run k s row)) = ((vs : List Token) → Rest C row vs → begins_sign is.Arrow vs ≡ false)
+      × ((g f : Forest) (ts vs us : List Token) → fill ((spells g).all s) ts ≡ Some vs → Within n g → is_absent_at 0 f ≡ false → fill ((spells f).row row) vs ≡ Some us → Within n f → C us → all_of (begins_child child s) (child s) (length ts) ts ≡ Some (g, vs))
+      × RowOk C row
   RowOk C (arrow row) = ⊥
 
   -- what is promised of the reading of rows
@@ -154,26 +156,34 @@ module _ (child part : Sort → Reader) (n : ℕ) where
     tree_reads (unended s row) C ok ts us h w cu =
         let x : (vs : List Token) × (fill (option_map without_last (first_slots l c (spells c) s)) ts ≡ Some vs) × (fill ((spells o).row row) vs ≡ Some us) = parts (option_map without_last (first_slots l c (spells c) s)) ((spells o).row row) ts us h in
         joined (λ t. t) (part s ts) (node_of l c) x.0 (read_row child part row) o us (ok.0 l c ts x.0 x.1 (w.0, tt) (o, us, x.2, w.1, cu)) (later row C ok.1 x.0 us x.2 w.1 cu)
-    tree_reads (arrow (run k s row)) C ok ts us h w cu = at (λ vs g. tree_reads (run k s row) C ok.1 vs us g w cu) (chosen (is_absent_at 0 o) (if is_end c then row_slots l c o (spells c) (spells o) (run k s row) else None) (followed (Some (signed is.Arrow ∷ [])) (row_slots l c o (spells c) (spells o) (run k s row))) ts us h) where
-      at : ((vs : List Token) → fill (row_slots l c o (spells c) (spells o) (run k s row)) vs ≡ Some us → read_row child part (run k s row) vs ≡ Some (tree l c o, us)) → ((is_absent_at 0 o ≡ true) × (fill (if is_end c then row_slots l c o (spells c) (spells o) (run k s row) else None) ts ≡ Some us)) ⊎ ((is_absent_at 0 o ≡ false) × (fill (followed (Some (signed is.Arrow ∷ [])) (row_slots l c o (spells c) (spells o) (run k s row))) ts ≡ Some us)) → read_row child part (arrow (run k s row)) ts ≡ Some (tree l c o, us)
-      at run_reads (inl x) =
-          let y : (is_end c ≡ true) × (fill (row_slots l c o (spells c) (spells o) (run k s row)) ts ≡ Some us) = where_true (is_end c) (row_slots l c o (spells c) (spells o) (run k s row)) ts us x.1 in
-          let z : (is_kind k (Some l) ≡ true) × (fill (followed ((spells c).all s) ((spells o).row row)) ts ≡ Some us) = where_true (is_kind k (Some l)) (followed ((spells c).all s) ((spells o).row row)) ts us y.1 in
+    tree_reads (arrow (run k s row)) C ok ts us h w cu = at (chosen (is_absent_at 0 o) (if is_end c then row_slots l c o (spells c) (spells o) (run k s row) else None) (followed (Some (signed is.Arrow ∷ [])) (row_slots l c o (spells c) (spells o) (run k s row))) ts us h) where
+      run_parts : (ts : List Token) → fill (row_slots l c o (spells c) (spells o) (run k s row)) ts ≡ Some us → (vs : List Token) × (is_kind k (Some l) ≡ true) × (fill ((spells c).all s) ts ≡ Some vs) × (fill ((spells o).row row) vs ≡ Some us)
+      run_parts ts g =
+          let z : (is_kind k (Some l) ≡ true) × (fill (followed ((spells c).all s) ((spells o).row row)) ts ≡ Some us) = where_true (is_kind k (Some l)) (followed ((spells c).all s) ((spells o).row row)) ts us g in
           let p : (vs : List Token) × (fill ((spells c).all s) ts ≡ Some vs) × (fill ((spells o).row row) vs ≡ Some us) = parts ((spells c).all s) ((spells o).row row) ts us z.1 in
-          let q : ts ≡ p.0 = of_some ts p.0 (ap (λ a. fill ((spells a).all s) ts) (turned (end_is c y.0)) ∙ p.1) in
-          let g : fill ((spells o).row row) ts ≡ Some us = ap (λ a. fill ((spells o).row row) a) q ∙ p.2 in
+          (p.0, z.0, p.1, p.2)
+
+      at : ((is_absent_at 0 o ≡ true) × (fill (if is_end c then row_slots l c o (spells c) (spells o) (run k s row) else None) ts ≡ Some us)) ⊎ ((is_absent_at 0 o ≡ false) × (fill (followed (Some (signed is.Arrow ∷ [])) (row_slots l c o (spells c) (spells o) (run k s row))) ts ≡ Some us)) → read_row child part (arrow (run k s row)) ts ≡ Some (tree l c o, us)
+      at (inl x) =
+          let y : (is_end c ≡ true) × (fill (row_slots l c o (spells c) (spells o) (run k s row)) ts ≡ Some us) = where_true (is_end c) (row_slots l c o (spells c) (spells o) (run k s row)) ts us x.1 in
+          let p : (vs : List Token) × (is_kind k (Some l) ≡ true) × (fill ((spells c).all s) ts ≡ Some vs) × (fill ((spells o).row row) vs ≡ Some us) = run_parts ts y.1 in
+          let q : ts ≡ p.0 = of_some ts p.0 (ap (λ a. fill ((spells a).all s) ts) (turned (end_is c y.0)) ∙ p.2) in
+          let g : fill ((spells o).row row) ts ≡ Some us = ap (λ a. fill ((spells o).row row) a) q ∙ p.3 in
           ap (λ b. elim b as (λ _. Read Forest) [
             | false ↦ after (read_row child part row ts) (λ f us. where_so (is_absent_at 0 f) (before (branch k []) f) us)
             | true ↦ after (read_row child part (run k s row) (behind_first ts)) (λ f us. where_so (not (is_absent_at 1 f)) f us)
           ]) (ok.0 ts (o, us, g, w.1, cu))
-          ∙ (ap (λ a. after a (λ f us. where_so (is_absent_at 0 f) (before (branch k []) f) us)) (later row C ok.1.1 ts us g w.1 cu)
+          ∙ (ap (λ a. after a (λ f us. where_so (is_absent_at 0 f) (before (branch k []) f) us)) (later row C ok.2 ts us g w.1 cu)
           ∙ (ap (λ b. if b then Some (tree (kind k) end o, us) else None) x.0
-          ∙ (ap (λ a. Some (tree a end o, us)) (turned (label_is k l z.0)) ∙ ap (λ a. Some (tree l a o, us)) (turned (end_is c y.0)))))
-      at run_reads (inr x) =
+          ∙ (ap (λ a. Some (tree a end o, us)) (turned (label_is k l p.1)) ∙ ap (λ a. Some (tree l a o, us)) (turned (end_is c y.0)))))
+      at (inr x) =
           let p : (vs : List Token) × (fill (Some (signed is.Arrow ∷ [])) ts ≡ Some vs) × (fill (row_slots l c o (spells c) (spells o) (run k s row)) vs ≡ Some us) = parts (Some (signed is.Arrow ∷ [])) (row_slots l c o (spells c) (spells o) (run k s row)) ts us x.1 in
           let q : ts ≡ symbol is.Arrow ∷ p.0 = stands (symbol is.Arrow) ts p.0 (one (signed is.Arrow) ts p.0 p.1) in
+          let z : (vs : List Token) × (is_kind k (Some l) ≡ true) × (fill ((spells c).all s) p.0 ≡ Some vs) × (fill ((spells o).row row) vs ≡ Some us) = run_parts p.0 p.2 in
           ap (λ a. read_row child part (arrow (run k s row)) a) q
-          ∙ (ap (λ a. after a (λ f us. where_so (not (is_absent_at 1 f)) f us)) (run_reads p.0 p.2)
+          ∙ (ap (λ a. after a (λ f us. where_so (not (is_absent_at 1 f)) f us)) (joined (λ f. node_of (kind k) f) (all_of (begins_child child s) (child s) (length p.0) p.0) c z.0 (read_row child part row) o us
+          (ok.1 c o p.0 z.0 us z.2 (within_below l c o n w) x.0 z.3 w.1 cu) (later row C ok.2 z.0 us z.3 w.1 cu)
+          ∙ ap (λ a. Some (tree a c o, us)) (turned (label_is k l z.1)))
           ∙ ap (λ b. if not b then Some (tree l c o, us) else None) x.0)
     tree_reads (arrow row) C ok ts us h w cu = absurd ok
 

@@ -135,14 +135,14 @@ module _ (child : Sort → Reader) (n : ℕ) (one_attribute : ReadsSort child n 
     ),
   )
 
-  parameter_is : (l : Label) (r : Row) → row_of a_parameter l ≡ Some r → (l ≡ kind parameter) × (attrs (leaf (an_ident binder) (sym is.Colon (own a_type nothing))) ≡ r)
+  pub parameter_is : (l : Label) (r : Row) → row_of a_parameter l ≡ Some r → (l ≡ kind parameter) × (attrs (leaf (an_ident binder) (sym is.Colon (own a_type nothing))) ≡ r)
   parameter_is (kind k) r h = let x : (k ≡ parameter) × (attrs (leaf (an_ident binder) (sym is.Colon (own a_type nothing))) ≡ r) = only_row parameter (attrs (leaf (an_ident binder) (sym is.Colon (own a_type nothing)))) k r h in (ap (λ z. let l : Label = kind z in l) x.0, x.1)
   parameter_is (at k zero zero) r h = absurd (no_some r h)
   parameter_is (at k zero (suc e)) r h = absurd (no_some r h)
   parameter_is (at k (suc s) e) r h = absurd (no_some r h)
   parameter_is l r h = absurd (no_some r h)
 
-  member_is : (l : Label) (r : Row) → row_of a_bare_member l ≡ Some r → (l ≡ kind member) × (attrs (leaf a_name (sym is.Colon (own a_type nothing))) ≡ r)
+  pub member_is : (l : Label) (r : Row) → row_of a_bare_member l ≡ Some r → (l ≡ kind member) × (attrs (leaf a_name (sym is.Colon (own a_type nothing))) ≡ r)
   member_is (kind k) r h = let x : (k ≡ member) × (attrs (leaf a_name (sym is.Colon (own a_type nothing))) ≡ r) = only_row member (attrs (leaf a_name (sym is.Colon (own a_type nothing)))) k r h in (ap (λ z. let l : Label = kind z in l) x.0, x.1)
   member_is (at k zero zero) r h = absurd (no_some r h)
   member_is (at k zero (suc e)) r h = absurd (no_some r h)
@@ -165,12 +165,12 @@ attributes_at n l c ts us h w e = attribute_reads_at n l c ts us h w e
 pub parameter_reads_at : (n : ℕ) (l : Label) (c : Forest) (ts us : List Token) → fill (first_slots l c (spells c) a_parameter) ts ≡ Some us → Within n (tree l c end) → Ends us → reading n a_parameter ts ≡ Some (node_of l c, us)
 parameter_reads_at n l c ts us h w e = parameter_reads (ranked (at_level n any) 2) n (attributes_at n) (types_at n) l c ts us h w e
 
-bare_member_reads_at : (n : ℕ) (l : Label) (c : Forest) (ts us : List Token) → fill (first_slots l c (spells c) a_bare_member) ts ≡ Some us → Within n (tree l c end) → Ends us → reading n a_bare_member ts ≡ Some (node_of l c, us)
+pub bare_member_reads_at : (n : ℕ) (l : Label) (c : Forest) (ts us : List Token) → fill (first_slots l c (spells c) a_bare_member) ts ≡ Some us → Within n (tree l c end) → Ends us → reading n a_bare_member ts ≡ Some (node_of l c, us)
 bare_member_reads_at n l c ts us h w e = bare_member_reads (ranked (at_level n any) 2) n (attributes_at n) (types_at n) l c ts us h w e
 
 -- ---- members with their spans
 
-spanned_member_is : (l : Label) (r : Row) → row_of a_member l ≡ Some r → (l ≡ at member_node 0 0) × (own a_bare_member nothing ≡ r)
+pub spanned_member_is : (l : Label) (r : Row) → row_of a_member l ≡ Some r → (l ≡ at member_node 0 0) × (own a_bare_member nothing ≡ r)
 spanned_member_is (at k zero zero) r h = by (same_kind member_node k) refl h where
   by : (b : Bool) → same_kind member_node k ≡ b → (if b then Some (own a_bare_member nothing) else None) ≡ Some r → ((let l : Label = at k 0 0 in l) ≡ at member_node 0 0) × (own a_bare_member nothing ≡ r)
   by true e g = (ap (λ z. let l : Label = at z 0 0 in l) (turned (kind_is member_node k e)), of_some (own a_bare_member nothing) r g)

@@ -157,7 +157,7 @@ module _ (child part : Sort → Reader) (n : ℕ) (parted : ReadsParted child n 
         by : (j : Label) (d x : Forest) (ws : List Token) → o ≡ tree j d x → fill ((spells x).row (sym is.Equal (own an_expression tail))) ws ≡ Some us
             → ((node_of j d ≡ wildcard child) × (vs ≡ name (codes "_") ∷ ws)) ⊎ (((is_tight (class_of (label_at 0 d)) && leads_to_place d) ≡ true) × (fill (first_slots j d (spells d) an_expression) vs ≡ Some ws))
             → (begins_sign is.At vs ≡ false) × PartedLast g vs × (label_of_statement child vs ≡ Some (assignment assignment_operator.Equal)) × Goes vs
-        by j d x ws q k (inl z) = (ap (λ s. begins_sign is.At s) z.1, inl (ap (λ s. begins_sign is.ParenLeft s) z.1), ap (λ s. label_of_statement child s) z.1, (ap ends_block z.1, ap (λ s. begins_word (codes "else") s) z.1))
+        by j d x ws q k (inl z) = (ap (λ s. begins_sign is.At s) z.1, inl (ap (λ s. begins_sign is.ParenLeft s) z.1), ap (λ s. label_of_statement child s) z.1, (ap ends_block z.1, ap (λ s. begins_word (codes "else") s) z.1, ap (λ s. begins_sign is.ParenRight s) z.1))
         by j d x ws q k (inr z) =
             let b : begins_operand vs ≡ true = operand_first j d vs ws z.1 in
             let lead : leads_to_place o ≡ true = ap leads_to_place q ∙ (ap (λ s. leads_to_place (tree s d x)) (expression_parts j d vs ws z.1).0 ∙ (and_parts (is_tight (class_of (label_at 0 d))) (leads_to_place d) z.0).1) in (

@@ -1,14 +1,14 @@
 -- Declarations in functions and calls that are statements, and the same without `;`.
 use Rattle.std.proofs.Common.{◌≡◌, ◌⊎◌, ℕ, zero, suc, true, false, ◌&&◌, List, [], ◌∷◌, length, Some, None, refl, sym as turned, inl, inr, ap, ◌∙◌, subst, codes}
 use Rattle.wesl_tree_names.specs.Path.{Text}
-use Rattle.wesl_tree_syntax.specs.Tree.{kind, at, binder, end, tree, attributes, declaration, call_statement, call_expression, override_kind, expression_node}
+use Rattle.wesl_tree_syntax.specs.Tree.{kind, at, binder, end, tree, attributes, declaration, call_statement, call_expression, override_kind, let_kind, expression_node}
 use Rattle.wesl_text_tokens.specs.declared.symbol.Symbol.TheVariants as is
 use Rattle.wesl_text_tokens.specs.Tokens.{Token, name, symbol, open_list}
 use Rattle.wesl_text_form.specs.Slots.{comes_first}
 use Rattle.wesl_text_form.specs.Productions.{Sort, an_expression, an_attribute, a_call, a_kind, a_space, a_type, an_ident, Row, nothing, sym, may_sym, says, opens, closes, own, leaf, optional, attrs, row_of, rows_of_kind}
 use Rattle.wesl_text_form.specs.Spelling.{Label, Forest, spells, followed, leaf_slots, first_slots, fits, stands_as, is_kind, label_at}
 use Rattle.wesl_text_reading.specs.FirstTokens.{begins_sign, label_behind_expression}
-use Rattle.wesl_text_reading.specs.Reading.{Reader, node_of, all_of, begins_child, label_of_statement, read_row}
+use Rattle.wesl_text_reading.specs.Reading.{Reader, node_of, all_of, behind_attributes, begins_child, label_of_statement, read_row}
 use Rattle.wesl_text_reading.proofs.Filled.{no_some, no_true, fill, both}
 use Rattle.wesl_text_reading.proofs.Takes.{first_parts}
 use Rattle.wesl_text_reading.proofs.Within.{Within, within_below}
@@ -49,22 +49,46 @@ call_within : (n : ℕ) (c g o : Forest) (j : Label) (d x : Forest) → Within n
 call_within zero c g o j d x w q p = absurd w.0
 call_within (suc m) c g o j d x w q p = let v : Within m (tree j d x) = subst (λ z. Within m z) p (subst (λ z. Within m z) q w.0).1 in (((v.0, tt), tt), tt)
 
+-- a declaration by its word
+pub kind_by : (T : List Token → Type 0) (j : Label) (d : Forest) (vs us : List Token) → fill (first_slots j d (spells d) a_kind) vs ≡ Some us → ((ws : List Token) → T (name (codes "const") ∷ ws)) → (j ≡ kind override_kind → (ws : List Token) → T (name (codes "override") ∷ ws))
+    → (j ≡ kind let_kind → (ws : List Token) → T (name (codes "let") ∷ ws)) → ((ws : List Token) → T (name (codes "var") ∷ ws)) → T vs
+kind_by T (kind k) d vs us h of_const of_override of_let of_var =
+    let x : (r : Row) × (row_of {I = Text} a_kind (kind k) ≡ Some r) × ((fits (kind k) d && stands_as a_kind (kind k) d) ≡ true) × (fill ((spells d).row r) vs ≡ Some us) = first_parts (kind k) d (spells d) a_kind vs us h in
+    by x.0 x.3 (in_rows rows_of_kind k x.0 x.1) where
+      begun : (w : Text) (row : Row) (r : Row) → says w row ≡ r → fill ((spells d).row r) vs ≡ Some us → ((ws : List Token) → T (name w ∷ ws)) → T vs
+      begun w row r q g t = let y : (ws : List Token) × (vs ≡ name w ∷ ws) × (fill ((spells d).row row) ws ≡ Some us) = row_word d w row vs us (subst (λ z. fill ((spells d).row z) vs ≡ Some us) (turned q) g) in subst T (turned y.1) (t y.0)
+
+      by : (r : Row) → fill ((spells d).row r) vs ≡ Some us → InRows rows_of_kind k r → T vs
+      by r g (inl q) = begun (codes "const") nothing r q.1 g of_const
+      by r g (inr (inl q)) = begun (codes "override") nothing r q.1 g (of_override (ap (λ z. let l : Label = kind z in l) q.0))
+      by r g (inr (inr (inl q))) = begun (codes "let") nothing r q.1 g (of_let (ap (λ z. let l : Label = kind z in l) q.0))
+      by r g (inr (inr (inr (inl q)))) = begun (codes "var") (optional (opens (own a_space (may_sym is.Comma (closes nothing)))) nothing) r q.1 g of_var
+      by r g (inr (inr (inr (inr q)))) = absurd q
+kind_by T (at k zero zero) d vs us h of_const of_override of_let of_var = absurd (no_some us h)
+kind_by T (at k zero (suc f)) d vs us h of_const of_override of_let of_var = absurd (no_some us h)
+kind_by T (at k (suc s) f) d vs us h of_const of_override of_let of_var = absurd (no_some us h)
+kind_by T l d vs us h of_const of_override of_let of_var = absurd (no_some us h)
+
 module _ (child part : Sort → Reader) (n : ℕ) (parted : ReadsParted child n (child an_attribute)) (exprs : ReadsSort child n an_expression Ended (child an_expression)) (C : List Token → Type 0)
     (tail : Row) (tail_is : (f : Forest) (vs us : List Token) → fill ((spells f).row tail) vs ≡ Some us → C us → Tail vs) (tail_ok : RowOk child part n C tail) where
-  -- a row with attributes is read where what is behind them is
-  behind_reads : (c : Forest) (row : Row) (l : Label) (ts us : List Token) → fill ((spells c).row (attrs row)) ts ≡ Some us → Within n c → RowOk child part n C row
-      → ((o : Forest) (vs : List Token) → fill ((spells o).row row) vs ≡ Some us → (g : Forest) → c ≡ tree (kind attributes) g o → Apart vs × (label_of_statement child vs ≡ Some l) × Goes vs)
-      → Begun child l ts × (C us → read_row child part (attrs row) ts ≡ Some (c, us))
-  behind_reads c row l ts us h w ok first =
+  -- a row with attributes is read where what is behind them is, of which something is told
+  pub behind_reads : (c : Forest) (row : Row) (T : List Token → Type 0) (ts us : List Token) → fill ((spells c).row (attrs row)) ts ≡ Some us → Within n c → RowOk child part n C row
+      → ((o : Forest) (vs : List Token) → fill ((spells o).row row) vs ≡ Some us → (g : Forest) → c ≡ tree (kind attributes) g o → Apart vs × T vs)
+      → ((vs : List Token) × (behind_attributes child ts ≡ vs) × T vs) × (C us → read_row child part (attrs row) ts ≡ Some (c, us))
+  behind_reads c row T ts us h w ok first =
       let p : (g : Forest) × (o : Forest) × (vs : List Token) × (c ≡ tree (kind attributes) g o) × (fill ((spells g).all an_attribute) ts ≡ Some vs) × (fill ((spells o).row row) vs ≡ Some us) = attrs_parts c row ts us h in
       let v : Within n (tree (kind attributes) p.0 p.1) = subst (λ a. Within n a) p.3 w in
-      let b : Apart p.2 × (label_of_statement child p.2 ≡ Some l) × Goes p.2 = first p.1 p.2 p.5 p.0 p.3 in
+      let b : Apart p.2 × T p.2 = first p.1 p.2 p.5 p.0 p.3 in
       let t : all_of (begins_child child an_attribute) (child an_attribute) (length ts) ts ≡ Some (p.0, p.2) = parted_read child n parted p.0 ts p.2 p.4 (within_below (kind attributes) p.0 p.1 n v) b.0.0 (inl b.0.1) in (
-        (p.2, ap (λ a. elim a as (λ _. List Token) [ None ↦ [] | Some x ↦ x.1 ]) t, b.1, b.2),
+        (p.2, ap (λ a. elim a as (λ _. List Token) [ None ↦ [] | Some x ↦ x.1 ]) t, b.1),
         λ cu. joined (λ f. node_of (kind attributes) f) (all_of (begins_child child an_attribute) (child an_attribute) (length ts) ts) p.0 p.2 (read_row child part row) p.1 us t
             (row_reads child part n p.1 row C ok p.2 us p.5 v.1 cu)
             ∙ ap (λ a. Some (a, us)) (turned p.3),
       )
+
+  -- what is told of a statement
+  abbrev Tells : Label → List Token → Type 0
+  Tells l vs = (label_of_statement child vs ≡ Some l) × Goes vs
 
   -- ---- declarations
 
@@ -85,7 +109,7 @@ module _ (child part : Sort → Reader) (n : ℕ) (parted : ReadsParted child n 
     by (inr x) = let q : (ws : List Token) × (vs ≡ symbol is.Equal ∷ ws) × (fill ((spells x.0).row (own an_expression nothing)) ws ≡ Some x.2) = row_token x.0 is.Equal (own an_expression nothing) vs x.2 x.3 in
         (ap (λ z. begins_sign is.Colon z) q.1, subst Ends (turned q.1) (refl, refl))
 
-  declaration_ok : ReadsSort child n a_kind NoList (child a_kind) → ReadsSort child n a_type Ends (child a_type) → RowOk child part n C declaration_row
+  pub declaration_ok : ReadsSort child n a_kind NoList (child a_kind) → ReadsSort child n a_type Ends (child a_type) → RowOk child part n C declaration_row
   declaration_ok kinds types = (
     (λ l c ts vs g v more.
         let x : (l : Label) × (o : Forest) × (ws : List Token) × (fill (leaf_slots (an_ident binder) l o) vs ≡ Some ws) × (fill ((spells o).row typed_row) ws ≡ Some more.1) = leaf_first more.0 (an_ident binder) typed_row vs more.1 more.2 in
@@ -107,38 +131,26 @@ module _ (child part : Sort → Reader) (n : ℕ) (parted : ReadsParted child n 
   )
 
   -- what the word of a declaration in a function tells
-  abbrev Told : List Token → Type 0
-  Told vs = Apart vs × (label_of_statement child vs ≡ Some (kind declaration)) × Goes vs
-
-  kind_tells : (j : Label) (d : Forest) (vs us : List Token) → fill (first_slots j d (spells d) a_kind) vs ≡ Some us → is_kind override_kind (Some j) ≡ false → Told vs
-  kind_tells (kind k) d vs us h e =
-      let x : (r : Row) × (row_of {I = Text} a_kind (kind k) ≡ Some r) × ((fits (kind k) d && stands_as a_kind (kind k) d) ≡ true) × (fill ((spells d).row r) vs ≡ Some us) = first_parts (kind k) d (spells d) a_kind vs us h in
-      by x.0 x.3 (in_rows rows_of_kind k x.0 x.1) where
-        begun : (w : Text) (row : Row) (r : Row) → says w row ≡ r → fill ((spells d).row r) vs ≡ Some us → ((ws : List Token) → Told (name w ∷ ws)) → Told vs
-        begun w row r q g t = let y : (ws : List Token) × (vs ≡ name w ∷ ws) × (fill ((spells d).row row) ws ≡ Some us) = row_word d w row vs us (subst (λ z. fill ((spells d).row z) vs ≡ Some us) (turned q) g) in subst Told (turned y.1) (t y.0)
-
-        by : (r : Row) → fill ((spells d).row r) vs ≡ Some us → InRows rows_of_kind k r → Told vs
-        by r g (inl q) = begun (codes "const") nothing r q.1 g (λ ws. ((refl, refl), refl, (refl, refl)))
-        by r g (inr (inl q)) = absurd (no_true (turned e ∙ ap (λ z. is_kind override_kind (Some (kind z))) q.0))
-        by r g (inr (inr (inl q))) = begun (codes "let") nothing r q.1 g (λ ws. ((refl, refl), refl, (refl, refl)))
-        by r g (inr (inr (inr (inl q)))) = begun (codes "var") (optional (opens (own a_space (may_sym is.Comma (closes nothing)))) nothing) r q.1 g (λ ws. ((refl, refl), refl, (refl, refl)))
-        by r g (inr (inr (inr (inr q)))) = absurd q
-  kind_tells (at k zero zero) d vs us h e = absurd (no_some us h)
-  kind_tells (at k zero (suc f)) d vs us h e = absurd (no_some us h)
-  kind_tells (at k (suc s) f) d vs us h e = absurd (no_some us h)
-  kind_tells l d vs us h e = absurd (no_some us h)
+  kind_tells : (j : Label) (d : Forest) (vs us : List Token) → fill (first_slots j d (spells d) a_kind) vs ≡ Some us → is_kind override_kind (Some j) ≡ false → Apart vs × Tells (kind declaration) vs
+  kind_tells j d vs us h e =
+      kind_by (λ vs. Apart vs × Tells (kind declaration) vs) j d vs us h (λ ws. ((refl, refl), (refl, (refl, refl, refl)))) (λ q ws. absurd (no_true (turned e ∙ ap (λ z. is_kind override_kind (Some z)) q))) (λ q ws. ((refl, refl), (refl, (refl, refl, refl)))) (λ ws. ((refl, refl), (refl, (refl, refl, refl))))
 
   pub declaration_reads : ReadsSort child n a_kind NoList (child a_kind) → ReadsSort child n a_type Ends (child a_type) → (c : Forest) (ts us : List Token) → is_kind override_kind (label_at 1 c) ≡ false → fill ((spells c).row (attrs declaration_row)) ts ≡ Some us → Within n c
       → Begun child (kind declaration) ts × (C us → read_row child part (attrs declaration_row) ts ≡ Some (c, us))
-  declaration_reads kinds types c ts us e h w = behind_reads c declaration_row (kind declaration) ts us h w (declaration_ok kinds types) (λ o vs k g q.
+  declaration_reads kinds types c ts us e h w =
+      let b : ((vs : List Token) × (behind_attributes child ts ≡ vs) × Tells (kind declaration) vs) × (C us → read_row child part (attrs declaration_row) ts ≡ Some (c, us))
+      = behind_reads c declaration_row (Tells (kind declaration)) ts us h w (declaration_ok kinds types) (λ o vs k g q.
       let y : (j : Label) × (d : Forest) × (x : Forest) × (ws : List Token) × (o ≡ tree j d x) × (fill (first_slots j d (spells d) a_kind) vs ≡ Some ws) × (fill ((spells x).row (leaf (an_ident binder) typed_row)) ws ≡ Some us) = own_first o a_kind (leaf (an_ident binder) typed_row) vs us k in
-      kind_tells y.0 y.1 vs y.3 y.5 (ap (λ z. is_kind override_kind (label_at 1 z)) (turned (q ∙ ap (λ z. tree (kind attributes) g z) y.4)) ∙ e))
+      kind_tells y.0 y.1 vs y.3 y.5 (ap (λ z. is_kind override_kind (label_at 1 z)) (turned (q ∙ ap (λ z. tree (kind attributes) g z) y.4)) ∙ e)) in
+      ((b.0.0, b.0.1, b.0.2.0, b.0.2.1), b.1)
 
   -- ---- calls
 
   pub call_reads : ReadsSort child n a_call (λ us. Unit {0}) (child a_call) → (c : Forest) (ts us : List Token) → fill ((spells c).row (attrs (own a_call tail))) ts ≡ Some us → Within n (tree (kind call_statement) c end) → C us
       → Begun child (kind call_statement) ts × (C us → read_row child part (attrs (own a_call tail)) ts ≡ Some (c, us))
-  call_reads calls c ts us h w cu = behind_reads c (own a_call tail) (kind call_statement) ts us h (within_below (kind call_statement) c end n w) ((λ l c ts vs g v more. calls l c ts vs g v tt), tail_ok) (λ o vs k g q.
+  call_reads calls c ts us h w cu =
+      let b : ((vs : List Token) × (behind_attributes child ts ≡ vs) × Tells (kind call_statement) vs) × (C us → read_row child part (attrs (own a_call tail)) ts ≡ Some (c, us))
+      = behind_reads c (own a_call tail) (Tells (kind call_statement)) ts us h (within_below (kind call_statement) c end n w) ((λ l c ts vs g v more. calls l c ts vs g v tt), tail_ok) (λ o vs k g q.
       let y : (j : Label) × (d : Forest) × (x : Forest) × (ws : List Token) × (o ≡ tree j d x) × (fill (first_slots j d (spells d) a_call) vs ≡ Some ws) × (fill ((spells x).row tail) ws ≡ Some us) = own_first o a_call tail vs us k in
       let f : fill (first_slots (at expression_node 0 0) (tree (kind call_expression) (tree y.0 y.1 end) end) (spells (tree (kind call_expression) (tree y.0 y.1 end) end)) an_expression) vs ≡ Some y.3
       = both (followed (first_slots y.0 y.1 (spells y.1) a_call) (Some [])) (Some []) vs y.3 y.3 (both (first_slots y.0 y.1 (spells y.1) a_call) (Some []) vs y.3 y.3 y.5 refl) refl in
@@ -146,6 +158,9 @@ module _ (child part : Sort → Reader) (n : ℕ) (parted : ReadsParted child n 
       let t : Tail y.3 = tail_is y.2 y.3 us y.6 cu in
       let p : (begins_sign is.ParenLeft vs ≡ false) = ap (λ z. begins_sign is.ParenLeft z) (call_begins y.0 y.1 vs y.3 y.5).2 in (
         (operand_no_at vs b, p),
-        told child part n parted exprs C (kind call_statement) (at expression_node 0 0) (tree (kind call_expression) (tree y.0 y.1 end) end) vs y.3 b (exprs (at expression_node 0 0) (tree (kind call_expression) (tree y.0 y.1 end) end) vs y.3 f (call_within n c g o y.0 y.1 y.2 w q y.4) (tail_ends y.3 t)) (tail_other y.3 t).2,
-        operand_goes vs b,
-      ))
+        (
+          told child part n parted exprs C (kind call_statement) (at expression_node 0 0) (tree (kind call_expression) (tree y.0 y.1 end) end) vs y.3 b (exprs (at expression_node 0 0) (tree (kind call_expression) (tree y.0 y.1 end) end) vs y.3 f (call_within n c g o y.0 y.1 y.2 w q y.4) (tail_ends y.3 t)) (tail_other y.3 t).2,
+          operand_goes vs b,
+        ),
+      )) in
+      ((b.0.0, b.0.1, b.0.2.0, b.0.2.1), b.1)

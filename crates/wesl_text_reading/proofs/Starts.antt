@@ -14,27 +14,29 @@ use Rattle.wesl_text_reading.proofs.Classes.{denied}
 use Rattle.wesl_text_reading.proofs.Operands.{is_first_word, begins_operand}
 use Rattle.wesl_text_reading.proofs.Selectors.{not_word}
 
--- statements go on: no block ends, and no `else` comes
+-- statements go on: no block ends, and neither `else` nor `)` comes
 abbrev pub Goes : List Token → Type 0
-Goes vs = (ends_block vs ≡ false) × (begins_word (codes "else") vs ≡ false)
+Goes vs = (ends_block vs ≡ false) × (begins_word (codes "else") vs ≡ false) × (begins_sign is.ParenRight vs ≡ false)
 
 or_false : (a b : Bool) → a ≡ false → b ≡ false → (a || b) ≡ false
 or_false a b e g = ap (λ z. z || b) e ∙ g
 
-no_brace : (ts : List Token) → begins_operand ts ≡ true → (are_none ts ≡ false) × (begins_sign is.BraceRight ts ≡ false) × (begins_sign is.At ts ≡ false)
+no_brace : (ts : List Token) → begins_operand ts ≡ true → (are_none ts ≡ false) × (begins_sign is.BraceRight ts ≡ false) × (begins_sign is.At ts ≡ false) × (begins_sign is.ParenRight ts ≡ false)
 no_brace [] h = absurd (no_true h)
 no_brace (symbol is.BraceRight ∷ ts) h = absurd (no_true h)
 no_brace (symbol is.At ∷ ts) h = absurd (no_true h)
-no_brace (t ∷ ts) h = (refl, refl, refl)
+no_brace (symbol is.ParenRight ∷ ts) h = absurd (no_true h)
+no_brace (t ∷ ts) h = (refl, refl, refl, refl)
 
 -- an expression goes on with statements
 pub operand_goes : (ts : List Token) → begins_operand ts ≡ true → Goes ts
 operand_goes ts h =
-    let x : (are_none ts ≡ false) × (begins_sign is.BraceRight ts ≡ false) × (begins_sign is.At ts ≡ false) = no_brace ts h in (
+    let x : (are_none ts ≡ false) × (begins_sign is.BraceRight ts ≡ false) × (begins_sign is.At ts ≡ false) × (begins_sign is.ParenRight ts ≡ false) = no_brace ts h in (
       or_false ((are_none ts || begins_sign is.BraceRight ts) || begins_word (codes "continuing") ts) (begins_words (codes "break") (codes "if") ts)
           (or_false (are_none ts || begins_sign is.BraceRight ts) (begins_word (codes "continuing") ts) (or_false (are_none ts) (begins_sign is.BraceRight ts) x.0 x.1) (not_word (codes "continuing") refl ts h))
           (ap (λ b. b && begins_word (codes "if") (behind_first ts)) (not_word (codes "break") refl ts h)),
       not_word (codes "else") refl ts h,
+      x.3,
     )
 
 pub operand_no_at : (ts : List Token) → begins_operand ts ≡ true → begins_sign is.At ts ≡ false

@@ -39,10 +39,14 @@ abbrev pub step_words : List Token → List Text × List Token
 step_words (name t ∷ symbol is.ColonColon ∷ ts) = let x : List Text × List Token = step_words ts in (t ∷ x.0, x.1)
 step_words ts = ([], ts)
 
+-- a word and those behind it, each with `/` before it, as one text; and what is left
+abbrev pub slashed_behind : Text → List Token → Text × List Token
+slashed_behind t (symbol is.Slash ∷ name u ∷ ts) = let x : Text × List Token = slashed_behind u ts in (t ++ slash ∷ x.0, x.1)
+slashed_behind t ts = (t, ts)
+
 -- words with `/` between, as one text; and what is left
 abbrev pub slashed : List Token → Text × List Token
-slashed (name t ∷ symbol is.Slash ∷ ts) = let x : Text × List Token = slashed ts in (t ++ slash ∷ x.0, x.1)
-slashed (name t ∷ ts) = (t, ts)
+slashed (name t ∷ ts) = slashed_behind t ts
 slashed ts = ([], ts)
 
 -- the text that a path begins with: where slashes may stand in it, words with `/` between

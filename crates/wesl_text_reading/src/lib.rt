@@ -4,5 +4,5 @@
 mod laws;
 mod rows;
 
-pub use laws::law_of_reading;
+pub use laws::{law_of_reading, law_of_units};
 pub use rows::rows_of_reading;

@@ -12,6 +12,10 @@ pub use Rattle.wesl_tree_syntax.specs.View
 pub use Rattle.wesl_tree_syntax.specs.Nodes
 pub use Rattle.wesl_tree_syntax.specs.Unit
 pub use Rattle.wesl_tree_syntax.specs.Kinds
+pub use Rattle.wesl_tree_syntax.specs.Shown
 pub use Rattle.wesl_tree_syntax.specs.Numbers
+pub use Rattle.wesl_tree_interner.specs.Different
+pub use Rattle.wesl_tree_interner.specs.Interned
+pub use Rattle.wesl_tree_interner.specs.Interning
 pub mod Parts
 pub mod Translation

@@ -35,15 +35,19 @@ pub trait Placed: Node {
 
 /// What can be copied: every node. An equal copy stands for the same tree as the original.
 pub trait TryClone: Sized {
+    /// the tree that a value stands for, with the numbers of its identifiers and with its spans
+    ghost tree: { Self → Tree };
+
     /// An equal copy, spans too. Refused for want of memory alone.
-    fn try_clone(&self, alloc: Global) -> Result<Self, Error>;
+    fn try_clone(&self, alloc: Global) -> Result<Self, Error>
+        ensures equal { IfOk result (λ copy. tree copy ≡ tree self.now) }
+        ensures refused { IfErr result (λ e. e ≡ error.Memory) };
 }
 
 impl<T: Node> TryClone for T {
-    fn try_clone(&self, alloc: Global) -> Result<T, Error>
-        ensures equal { IfOk result (λ copy. T.tree copy ≡ T.tree self.now) }
-        ensures refused { IfErr result (λ e. e ≡ error.Memory) }
-    {
+    ghost tree = { T.Node.tree };
+
+    fn try_clone(&self, alloc: Global) -> Result<T, Error> {
         let mut copying = Copying::of(alloc);
         let copy = self.copied(&mut copying);
         unless_refused(copying.is_refused, copy)

@@ -3,7 +3,8 @@
 //!
 //! Want of memory is `Memory` wherever it comes up, and no call wraps it in another error.
 ghost use Rattle.std.specs.Prelude.{◌≡◌};
-ghost use Rattle.wesl_tree_names.specs.Errors.{error_of_resolve, span_told, IsBare, IsPlaced};
+ghost use Rattle.wesl_tree_names.specs.Errors.{error_of_resolve, import_is_memory, is_memory, resolver_is_memory};
+ghost use Rattle.wesl_tree_names.specs.Errors.{span_told, IsBare, IsPlaced};
 ghost use Rattle.wesl_tree_names.specs.declared.errors.Diagnostic.{out-Diagnostic};
 
 use crate::path::ModulePath;
@@ -181,14 +182,52 @@ fn told(span: Span) -> Option<Span>
 }
 
 impl Error {
-    /// The error of a link whose resolver refuses a module: want of memory stays that, and anything else
-    /// is a fault of an import.
+    /// The error of a link whose resolver refuses a module: want of memory is told as that, and anything
+    /// else is a fault of an import.
     pub fn of_resolve(fault: ResolveError) -> Error
         ensures { result ≡ error_of_resolve fault }
     {
-        match fault {
-            ResolveError::Memory => Error::Memory,
-            fault => Error::Import(ImportError::ResolveError(fault)),
+        Error::from(ImportError::ResolveError(fault))
+    }
+
+    /// Whether the error is want of memory, also where somebody wrapped it in the refusal of a resolver, in
+    /// a fault of an import or in a diagnostic.
+    #[cycle(memory)]
+    pub fn is_memory(&self) -> bool
+        ensures { result ≡ is_memory self.now }
+    {
+        match self {
+            Error::Memory => true,
+            Error::Resolve(inner) => inner.is_memory(),
+            Error::Import(inner) => inner.is_memory(),
+            _ => false,
+        }
+    }
+}
+
+impl ResolveError {
+    /// Whether the refusal is want of memory, also where somebody wrapped it in a diagnostic.
+    #[cycle(memory)]
+    pub fn is_memory(&self) -> bool
+        ensures { result ≡ resolver_is_memory self.now }
+    {
+        match self {
+            ResolveError::Memory => true,
+            ResolveError::Error(inner) => inner.error.is_memory(),
+            _ => false,
+        }
+    }
+}
+
+impl ImportError {
+    /// Whether the fault is a resolver's want of memory, which somebody wrapped in it.
+    #[cycle(memory)]
+    pub fn is_memory(&self) -> bool
+        ensures { result ≡ import_is_memory self.now }
+    {
+        match self {
+            ImportError::ResolveError(inner) => inner.is_memory(),
+            _ => false,
         }
     }
 }
@@ -283,14 +322,19 @@ impl<T: Drop> From<AllocFailed<T>> for Error {
     }
 }
 
+/// Want of memory is told as that, and any other error is held with its place.
 impl From<Box<Diagnostic>> for ResolveError {
     ghost use Rattle.std.specs.Prelude.{◌≡◌};
-    ghost use Rattle.wesl_tree_names.specs.declared.errors.ResolveError as resolve_error;
+    ghost use Rattle.wesl_tree_names.specs.Errors.{refusal_of_diagnostic};
 
-    ghost from_gives = { λ d e. e ≡ resolve_error.Error d };
+    ghost from_gives = { λ d e. e ≡ refusal_of_diagnostic d };
 
     fn from(diagnostic: Box<Diagnostic>) -> ResolveError {
-        ResolveError::Error(diagnostic)
+        if diagnostic.error.is_memory() {
+            ResolveError::Memory
+        } else {
+            ResolveError::Error(diagnostic)
+        }
     }
 }
 
@@ -316,25 +360,35 @@ impl From<CondCompError> for Error {
     }
 }
 
+/// Want of memory is told as that, and any other fault is held as it is.
 impl From<ImportError> for Error {
     ghost use Rattle.std.specs.Prelude.{◌≡◌};
-    ghost use Rattle.wesl_tree_names.specs.declared.errors.Error as error;
+    ghost use Rattle.wesl_tree_names.specs.Errors.{error_of_import};
 
-    ghost from_gives = { λ fault e. e ≡ error.Import fault };
+    ghost from_gives = { λ fault e. e ≡ error_of_import fault };
 
     fn from(fault: ImportError) -> Error {
-        Error::Import(fault)
+        if fault.is_memory() {
+            Error::Memory
+        } else {
+            Error::Import(fault)
+        }
     }
 }
 
+/// Want of memory is told as that, and any other refusal is held as it is.
 impl From<ResolveError> for Error {
     ghost use Rattle.std.specs.Prelude.{◌≡◌};
-    ghost use Rattle.wesl_tree_names.specs.declared.errors.Error as error;
+    ghost use Rattle.wesl_tree_names.specs.Errors.{error_of_refusal};
 
-    ghost from_gives = { λ fault e. e ≡ error.Resolve fault };
+    ghost from_gives = { λ fault e. e ≡ error_of_refusal fault };
 
     fn from(fault: ResolveError) -> Error {
-        Error::Resolve(fault)
+        if fault.is_memory() {
+            Error::Memory
+        } else {
+            Error::Resolve(fault)
+        }
     }
 }
 

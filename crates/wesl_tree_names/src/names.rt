@@ -14,6 +14,7 @@ use wesl_tree_base::copied_texts;
 pub struct Ident(pub usize);
 
 /// A table of names. Contracts see the list of the names' bytes, which may hold one name twice.
+#[derive(Debug)]
 pub struct Names {
     names: Vec<String>,
 }

@@ -1,6 +1,7 @@
 //! The names of built-in types and words (WGSL, "Types", "Address Spaces" and "Memory Access Mode").
-ghost use Rattle.std.specs.Prelude.{◌≡◌, Some};
+ghost use Rattle.std.specs.Prelude.{◌≡◌, Option, Some};
 ghost use Rattle.std.specs.Option.{option_map};
+ghost use Rattle.wesl_tree_names.specs.Path.{Text};
 ghost use Rattle.wesl_validate_builtins.specs.Types.{type_name, texture_name, sampler_name, sampled_name, space_name, access_name};
 
 use wesl_tree::{AccessMode, AddressSpace};
@@ -114,14 +115,18 @@ pub enum BuiltinType {
 
 /// What has a name that is built in.
 pub trait BuiltinIdent {
+    /// the name that is built in, if there is one
+    ghost word: { Self → Option Text };
+
     /// Its name, if it has one.
-    fn builtin_ident(&self) -> Option<&'static str>;
+    fn builtin_ident(&self) -> Option<&'static str>
+        ensures { option_map (λ s. s.now) result ≡ word self.now };
 }
 
 impl BuiltinIdent for BuiltinType {
-    fn builtin_ident(&self) -> Option<&'static str>
-        ensures { option_map (λ s. s.now) result ≡ type_name self.now }
-    {
+    ghost word = { type_name };
+
+    fn builtin_ident(&self) -> Option<&'static str> {
         match self {
             BuiltinType::Bool => Some("bool"),
             BuiltinType::AbstractInt => Some("__AbstractInt"),
@@ -154,9 +159,9 @@ impl BuiltinIdent for BuiltinType {
 }
 
 impl BuiltinIdent for TextureType {
-    fn builtin_ident(&self) -> Option<&'static str>
-        ensures { option_map (λ s. s.now) result ≡ Some (texture_name self.now) }
-    {
+    ghost word = { λ t. Some (texture_name t) };
+
+    fn builtin_ident(&self) -> Option<&'static str> {
         match self {
             TextureType::Sampled1D => Some("texture_1d"),
             TextureType::Sampled2D => Some("texture_2d"),
@@ -180,9 +185,9 @@ impl BuiltinIdent for TextureType {
 }
 
 impl BuiltinIdent for SamplerType {
-    fn builtin_ident(&self) -> Option<&'static str>
-        ensures { option_map (λ s. s.now) result ≡ Some (sampler_name self.now) }
-    {
+    ghost word = { λ s. Some (sampler_name s) };
+
+    fn builtin_ident(&self) -> Option<&'static str> {
         match self {
             SamplerType::Sampler => Some("sampler"),
             SamplerType::SamplerComparison => Some("sampler_comparison"),
@@ -191,9 +196,9 @@ impl BuiltinIdent for SamplerType {
 }
 
 impl BuiltinIdent for SampledType {
-    fn builtin_ident(&self) -> Option<&'static str>
-        ensures { option_map (λ s. s.now) result ≡ Some (sampled_name self.now) }
-    {
+    ghost word = { λ s. Some (sampled_name s) };
+
+    fn builtin_ident(&self) -> Option<&'static str> {
         match self {
             SampledType::I32 => Some("i32"),
             SampledType::U32 => Some("u32"),
@@ -203,9 +208,9 @@ impl BuiltinIdent for SampledType {
 }
 
 impl BuiltinIdent for AddressSpace {
-    fn builtin_ident(&self) -> Option<&'static str>
-        ensures { option_map (λ s. s.now) result ≡ space_name self.now }
-    {
+    ghost word = { space_name };
+
+    fn builtin_ident(&self) -> Option<&'static str> {
         match self {
             AddressSpace::Function => Some("function"),
             AddressSpace::Private => Some("private"),
@@ -218,9 +223,9 @@ impl BuiltinIdent for AddressSpace {
 }
 
 impl BuiltinIdent for AccessMode {
-    fn builtin_ident(&self) -> Option<&'static str>
-        ensures { option_map (λ s. s.now) result ≡ Some (access_name self.now) }
-    {
+    ghost word = { λ m. Some (access_name m) };
+
+    fn builtin_ident(&self) -> Option<&'static str> {
         match self {
             AccessMode::Read => Some("read"),
             AccessMode::Write => Some("write"),

@@ -8,5 +8,5 @@ pub loop-ident-preserved : goal.loop-ident-preserved
 loop-ident-preserved c = λ k.
     let a : c.loop-ident.is_refused ≡ false = or_left c.loop-ident.is_refused c.is_err-is_refused.result k in
     let b : c.is_err-is_refused.result ≡ false = or_right c.loop-ident.is_refused c.is_err-is_refused.result k in
-    names_more c.args.names.now c.args.idents.now c.loop-ident.ident-index _ (texts c.loop-ident.found.items) (texts c.put_once.new.found.items) c.loop-ident-test.true (c.loop-ident.invariant a)
-    (if_ok c.put_once.result _ (sym c.is_err-is_refused.ensures.value ∙ b) c.put_once.ensures ∙ ap (λ y. with_text y (texts c.loop-ident.found.items)) c.name_of.ensures)
+    names_more c.args.names.now c.args.idents.now c.loop-ident.ident-index _ (texts c.loop-ident.found.keys) (texts c.put_once.new.found.keys) c.loop-ident-test.true (c.loop-ident.invariant a)
+    (if_ok c.put_once.result _ (sym c.is_err-is_refused.ensures.value ∙ b) c.put_once.ensures ∙ ap (λ y. with_text y (texts c.loop-ident.found.keys)) c.name_of.ensures)

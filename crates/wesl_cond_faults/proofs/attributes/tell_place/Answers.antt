@@ -2,7 +2,7 @@ use Rattle.std.proofs.Common.{[], ap, map, sym}
 use Rattle.wesl_cond_chains.specs.Nodes.{attributes_forest}
 use Rattle.wesl_cond_faults.proofs.Adding.{adds_none, adds_same}
 use Rattle.wesl_cond_faults.proofs.Formulas.{place_none}
-use Rattle.wesl_cond_faults.specs.Places.{found_at}
+use Rattle.wesl_cond_chains.specs.Places.{found_at}
 use Rattle.wesl_cond_faults.proofs.attributes.tell_place.Goals as goal
 
 pub returns-else-is_orphan : goal.returns-else-is_orphan

@@ -3,7 +3,7 @@ use Rattle.wesl_cond_chains.specs.Lists.{elements}
 use Rattle.wesl_cond_chains.specs.Nodes.{optional_forest, replies}
 use Rattle.wesl_tree_syntax.specs.Tree.{forest_of}
 use Rattle.wesl_cond_faults.proofs.Formulas.{with_last, without_last}
-use Rattle.wesl_cond_faults.specs.Places.{list_places}
+use Rattle.wesl_cond_chains.specs.Places.{list_places}
 use Rattle.wesl_cond_faults.specs.Telling.{AddsFaults}
 use Rattle.wesl_cond_faults.proofs.lists.tell_both.Goals as goal
 

@@ -3,7 +3,7 @@ use Rattle.wesl_cond_chains.specs.Lists.{elements}
 use Rattle.wesl_cond_chains.specs.Nodes.{replies}
 use Rattle.wesl_tree_syntax.specs.Tree.{forest_of}
 use Rattle.wesl_cond_faults.proofs.Formulas.{begun_at_start, begun_next, begun_all, begun_opened}
-use Rattle.wesl_cond_faults.specs.Places.{list_places, opened_through}
+use Rattle.wesl_cond_chains.specs.Places.{list_places, opened_through}
 use Rattle.wesl_cond_faults.specs.Telling.{AddsFaults}
 use Rattle.wesl_cond_faults.proofs.lists.tell_nodes.Goals as goal
 

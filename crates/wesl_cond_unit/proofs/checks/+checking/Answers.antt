@@ -1,9 +1,8 @@
 use Rattle.std.proofs.Common.{[], ◌∷◌, map, cond, Ok, Err, Option, Box, Global, false, arith, sym, subst, refl}
 use Rattle.std.specs.Box.{box_value}
-use Rattle.wesl_cond_chains.specs.Judging.{Checks, IsClear}
+use Rattle.wesl_cond_chains.specs.Judging.{Checks, IsClear, RefusesIn}
 use Rattle.wesl_cond_chains.specs.Lists.{alone}
 use Rattle.wesl_cond_chains.specs.Nodes.{optional_forest, replies}
-use Rattle.wesl_cond_unit.proofs.Told.{TellsIn}
 use Rattle.wesl_tree_syntax.specs.Tree.{Tree, kind, clauses, before, end, forest_of, list}
 use Rattle.wesl_tree_syntax.specs.View.{clause_view, compound_view, continuing_view, else_if_view, else_view, if_view, listed, optional, statement_tree, statement_view}
 use Rattle.wesl_tree_syntax.specs.declared.span.Spanned.{Spanned}
@@ -103,7 +102,7 @@ check_statements-returns-in-Err t c =
     let reply = replies names c.args.features.now in
     let l = c.loop-node in
     let x = c.node-item.result in
-    subst (λ xs. TellsIn names reply (alone (stay reply) (forest_of (map statement_tree xs))) c.in-Err.fault) c.deref-node-items.ensures.value
+    subst (λ xs. RefusesIn names reply (alone (stay reply) (forest_of (map statement_tree xs))) c.in-Err.fault) c.deref-node-items.ensures.value
     (left_refused reply statement_tree (Unit {0}) names c.deref-node-items.result.now l.node-index l.chain.kept l.chain.decided c.stays.new.chain.kept c.stays.new.chain.decided x c.in-Err.fault (omega arith) c.node-item.is l.invariant (walks_in reply {A = Unit {0}} names l.chain.kept l.chain.decided c.stays.new.chain.kept c.stays.new.chain.decided c.stays.result (statement_tree x) (Err c.in-Err.fault) c.if-stays.true (c.stays.ensures false) (statement_checked reply names {A = Unit {0}} (Err c.in-Err.fault) x c.in-Err.ensures)))
 
 pub check_statements-returns : goal.check_statements-returns
@@ -129,7 +128,7 @@ pub check_else_ifs-returns-in-Err : goal.check_else_ifs-returns-in-Err
 check_else_ifs-returns-in-Err t c =
     let names = c.args.names.now in
     let reply = replies names c.args.features.now in
-    subst (λ xs. TellsIn names reply (forest_of (map else_if_view xs)) c.in-Err.fault) c.deref-clause-items.ensures.value (listed_refused reply else_if_view names c.deref-clause-items.result.now c.loop-clause.clause-index c.clause-item.result c.in-Err.fault (omega arith) c.clause-item.is c.loop-clause.invariant (else_if_checked reply names {A = Unit {0}} (Err c.in-Err.fault) c.clause-item.result c.in-Err.ensures))
+    subst (λ xs. RefusesIn names reply (forest_of (map else_if_view xs)) c.in-Err.fault) c.deref-clause-items.ensures.value (listed_refused reply else_if_view names c.deref-clause-items.result.now c.loop-clause.clause-index c.clause-item.result c.in-Err.fault (omega arith) c.clause-item.is c.loop-clause.invariant (else_if_checked reply names {A = Unit {0}} (Err c.in-Err.fault) c.clause-item.result c.in-Err.ensures))
 
 pub check_else_ifs-returns : goal.check_else_ifs-returns
 check_else_ifs-returns t c =
@@ -154,7 +153,7 @@ check_clauses-returns-in-Err-check_body t c =
     let reply = replies names c.args.features.now in
     let l = c.loop-clause in
     let x = c.clause-item.result in
-    clauses_checked reply names {A = Unit {0}} (Err c.in-Err-check_body.fault) c.args.clauses.now.items c.in-Ok.ensures (subst (λ xs. TellsIn names reply (alone (stay reply) (forest_of (map clause_view xs))) c.in-Err-check_body.fault) c.deref-clause-items.ensures.value
+    clauses_checked reply names {A = Unit {0}} (Err c.in-Err-check_body.fault) c.args.clauses.now.items c.in-Ok.ensures (subst (λ xs. RefusesIn names reply (alone (stay reply) (forest_of (map clause_view xs))) c.in-Err-check_body.fault) c.deref-clause-items.ensures.value
     (left_refused reply clause_view (Unit {0}) names c.deref-clause-items.result.now l.clause-index l.chain.kept l.chain.decided c.stays.new.chain.kept c.stays.new.chain.decided x c.in-Err-check_body.fault (omega arith) c.clause-item.is l.invariant (walks_in reply {A = Unit {0}} names l.chain.kept l.chain.decided c.stays.new.chain.kept c.stays.new.chain.decided c.stays.result (clause_view x) (Err c.in-Err-check_body.fault) c.if-stays.true (c.stays.ensures false) (clause_checked reply names {A = Unit {0}} (Err c.in-Err-check_body.fault) x c.in-Err-check_body.ensures))))
 
 pub check_clauses-returns : goal.check_clauses-returns
@@ -185,8 +184,8 @@ check_last-returns-in-Err t c =
     let reply = replies names c.args.features.now in
     let b = c.in-Some.block in
     let e = c.in-Err.fault in
-    subst (λ o. TellsIn names reply (cond c.args.stays (optional_forest continuing_view o) end) e) (sym c.in-Some.is)
-    (subst (λ s. TellsIn names reply (cond s (before (continuing_view b) end) end) e) (sym c.if-stays.true) (block_refused reply names b e c.in-Err.ensures))
+    subst (λ o. RefusesIn names reply (cond c.args.stays (optional_forest continuing_view o) end) e) (sym c.in-Some.is)
+    (subst (λ s. RefusesIn names reply (cond s (before (continuing_view b) end) end) e) (sym c.if-stays.true) (block_refused reply names b e c.in-Err.ensures))
 
 pub check_statement-returns-in_default : goal.check_statement-returns-in_default
 check_statement-returns-in_default t c =

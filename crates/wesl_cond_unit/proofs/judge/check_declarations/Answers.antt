@@ -1,8 +1,7 @@
 use Rattle.std.proofs.Common.{map, Ok, Err, false, arith, refl, subst}
-use Rattle.wesl_cond_chains.specs.Judging.{IsClear}
+use Rattle.wesl_cond_chains.specs.Judging.{IsClear, RefusesIn}
 use Rattle.wesl_cond_chains.specs.Lists.{alone}
 use Rattle.wesl_cond_chains.specs.Nodes.{replies}
-use Rattle.wesl_cond_unit.proofs.Told.{TellsIn}
 use Rattle.wesl_tree_syntax.specs.Tree.{Tree, kind, declarations, declaration_node, forest_of}
 use Rattle.wesl_tree_syntax.specs.View.{global_view, placed}
 use Rattle.wesl_tree_syntax.specs.declared.declaration.GlobalDeclaration.{GlobalDeclaration}
@@ -44,7 +43,7 @@ returns-in-Err-check_global c =
     let d = c.stays.new.chain.decided in
     let e = c.in-Err-check_global.fault in
     declarations_checked reply names {R = Unit {0}} (Err e) c.args.declarations.now.items c.in-Ok.ensures
-    (subst (λ ys. TellsIn names reply (alone (stay reply) (forest_of (map view ys))) e) c.deref-node-items.ensures.value
+    (subst (λ ys. RefusesIn names reply (alone (stay reply) (forest_of (map view ys))) e) c.deref-node-items.ensures.value
     (left_refused reply view (Unit {0}) names xs l.node-index l.chain.kept l.chain.decided k d x e (omega arith) c.node-item.is l.invariant (walks_in reply {A = Unit {0}} names l.chain.kept l.chain.decided k d c.stays.result (view x) (Err e) c.if-stays.true (c.stays.ensures false) (global_checked reply names {R = Unit {0}} (Err e) x c.in-Err-check_global.ensures))))
 
 pub returns : goal.returns

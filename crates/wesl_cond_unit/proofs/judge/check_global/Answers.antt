@@ -1,7 +1,6 @@
 use Rattle.std.proofs.Common.{sym, subst}
-use Rattle.wesl_cond_chains.specs.Judging.{Checks}
+use Rattle.wesl_cond_chains.specs.Judging.{Checks, RefusesIn}
 use Rattle.wesl_cond_chains.specs.Nodes.{replies}
-use Rattle.wesl_cond_unit.proofs.Told.{TellsIn}
 use Rattle.wesl_tree_syntax.specs.Tree.{before, end}
 use Rattle.wesl_tree_syntax.specs.View.{global_view}
 use Rattle.wesl_cond_unit.proofs.Declared.{function_checked, function_refused, struct_judged}
@@ -23,4 +22,4 @@ pub returns-in-Err : goal.returns-in-Err
 returns-in-Err c =
     let names = c.args.names.now in
     let reply = replies names c.args.features.now in
-    subst (λ d. TellsIn names reply (before (global_view d) end) c.in-Err.fault) (sym c.in-Function.is) (function_refused reply names c.in-Function.function c.in-Err.fault c.in-Err.ensures)
+    subst (λ d. RefusesIn names reply (before (global_view d) end) c.in-Err.fault) (sym c.in-Function.is) (function_refused reply names c.in-Function.function c.in-Err.fault c.in-Err.ensures)

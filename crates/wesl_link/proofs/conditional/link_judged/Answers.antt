@@ -1,4 +1,4 @@
-use Rattle.std.proofs.Common.{◌≡◌, ◌↔◌, sym, subst}
+use Rattle.std.proofs.Common.{◌≡◌, ◌↔◌, option_copied, sym, subst}
 use Rattle.std.proofs.lemmas.Result.{IfOk-weaker, IfErr-weaker}
 use Rattle.wesl_tree_base.specs.Borrowed.{texts}
 use Rattle.wesl_tree_names.specs.Path.{path_view}
@@ -16,8 +16,8 @@ returns-clause-linked g c =
     left-alike (g.R.Resolver.hands inner) (g.R.Resolver.hands c.args.resolver) (g.R.Resolver.refuses inner) (g.R.Resolver.refuses c.args.resolver)
     (λ p u. (subst (λ s. g.R.Resolver.hands s p u) same, subst (λ s. g.R.Resolver.hands s p u) (sym same)))
     (λ p e. (subst (λ s. g.R.Resolver.refuses s p e) same, subst (λ s. g.R.Resolver.refuses s p e) (sym same)))
-    c.args.features.now (λ given answer. g.F.Fn.post c.new-judged.result.preprocess (given, tt) answer)
-    (λ given answer. subst (λ f. g.F.Fn.post f (given, tt) answer ↔ IsConditioned c.args.features.now given answer) (sym stored) (c.requires.judges given answer)) in
+    (option_copied c.args.features) (λ given answer. g.F.Fn.post c.new-judged.result.preprocess (given, tt) answer)
+    (λ given answer. subst (λ f. g.F.Fn.post f (given, tt) answer ↔ IsConditioned (option_copied c.args.features) given answer) (sym stored) (c.requires.judges given answer)) in
     IfOk-weaker c.link_at.result _ _
     (λ r h. links-over _ _ _ _ alike (path_view c.args.request.now.root.now) (texts c.args.request.now.keep.now) c.args.request.now.is_eager c.args.request.now.max_modules (turns_of r) (modules_of r) h)
     c.link_at.ensures.linked
@@ -31,8 +31,8 @@ returns-clause-refused g c =
     left-alike (g.R.Resolver.hands inner) (g.R.Resolver.hands c.args.resolver) (g.R.Resolver.refuses inner) (g.R.Resolver.refuses c.args.resolver)
     (λ p u. (subst (λ s. g.R.Resolver.hands s p u) same, subst (λ s. g.R.Resolver.hands s p u) (sym same)))
     (λ p e. (subst (λ s. g.R.Resolver.refuses s p e) same, subst (λ s. g.R.Resolver.refuses s p e) (sym same)))
-    c.args.features.now (λ given answer. g.F.Fn.post c.new-judged.result.preprocess (given, tt) answer)
-    (λ given answer. subst (λ f. g.F.Fn.post f (given, tt) answer ↔ IsConditioned c.args.features.now given answer) (sym stored) (c.requires.judges given answer)) in
+    (option_copied c.args.features) (λ given answer. g.F.Fn.post c.new-judged.result.preprocess (given, tt) answer)
+    (λ given answer. subst (λ f. g.F.Fn.post f (given, tt) answer ↔ IsConditioned (option_copied c.args.features) given answer) (sym stored) (c.requires.judges given answer)) in
     IfErr-weaker c.link_at.result _ _
-    (λ d h. refuses-over _ _ _ _ alike (path_view c.args.request.now.root.now) (texts c.args.request.now.keep.now) c.args.request.now.is_eager c.args.request.now.max_modules d.error h)
+    (λ d h. refuses-over _ _ _ _ alike (path_view c.args.request.now.root.now) (texts c.args.request.now.keep.now) c.args.request.now.is_eager c.args.request.now.max_modules d h)
     c.link_at.ensures.refused

@@ -23,4 +23,4 @@ pub returns-in-Err-clause-refused : goal.returns-in-Err-clause-refused
 returns-in-Err-clause-refused g c = c.in-Err.ensures.refused
 
 pub returns-in-Err-clause-succeeds : goal.returns-in-Err-clause-succeeds
-returns-in-Err-clause-succeeds g c = λ faultless. only_memory _ faultless c.in-Err.diagnostic.error c.in-Err.ensures.refused
+returns-in-Err-clause-succeeds g c = λ faultless. only_memory _ faultless c.in-Err.refusal c.in-Err.ensures.refused

@@ -3,6 +3,8 @@ use Rattle.std.proofs.lemmas.List.{take_all}
 use Rattle.wesl_link_symbols.proofs.Lists.{contains_first, contains_later}
 use Rattle.wesl_link_tables.specs.TextsView.{numbering_of_texts as numbering}
 use Rattle.wesl_link_engine.specs.GivenView.{given}
+use Rattle.wesl_tree_names.specs.Path.{path_view}
+use Rattle.wesl_link_engine.specs.Recorded.{IsRecordedBy, HasNone, writes_of, firsts, declared_texts}
 use Rattle.wesl_link_engine.specs.Keeping.{module_of, all_loaded}
 use Rattle.wesl_link_engine.specs.declared.loaded.LoadedModule.{LoadedModule}
 use Rattle.wesl_link_engine.proofs.Lists.{item_held}
@@ -25,7 +27,7 @@ pub loop-module-init : goal.loop-module-init
 loop-module-init g c =
     let l = c.args.link.now in
     let f = g.M.Mangler.name_of c.args.mangler.now in
-    let writes = g.M.Mangler.writes in
+    let writes = g.M.Mangler.writes c.args.mangler.now in
     let start = g.M.Mangler.recorded c.args.mangler.now in
     let old = given c.new-given.result in
     elim c.if-mangle_root.branch [
@@ -44,12 +46,14 @@ loop-module-init g c =
                   wrote = w.in_ok-add_table.ensures.recorded;
                 }));
             same_variants = w.add_table.ensures.same_variants;
+            same_writing = w.add_table.ensures.same_writing;
           })
       | else-mangle_root w ↦
           let is : c.args.mangle_root ≡ false = search rules in
           rw (w.mangler-is, w.given-is) (record {
             mangles = subst (λ (b : Bool). Mangles l b f writes start [] old f start) (sym is) (begins l f writes old (λ p n. c.new-given.ensures (record { path = p; name = n })) start);
             same_variants = λ ns i n ts. refl;
+            same_writing = refl;
           })
     ]
 
@@ -79,7 +83,7 @@ loop-module-preserved g c =
     let inside : Contains (all_loaded l) m =
     contains_later l.root m l.others.items (subst (λ (ms : List LoadedModule). Contains ms m) c.deref-module-items.ensures.value (item_held c.deref-module-items.result.now c.loop-module.module-index m c.loop-module-test.true c.module-item.is)) in
     record {
-      mangles = goes_on l (g.M.Mangler.name_of c.args.mangler.now) g.M.Mangler.writes c.requires.sound.once c.args.mangle_root (g.M.Mangler.recorded c.args.mangler.now)
+      mangles = goes_on l (g.M.Mangler.name_of c.args.mangler.now) (g.M.Mangler.writes c.args.mangler.now) c.requires.sound.once c.args.mangle_root (g.M.Mangler.recorded c.args.mangler.now)
           c.deref-module-items.result.now c.deref-module-items.ensures.value c.loop-module.module-index m c.loop-module-test.true c.module-item.is
           (given c.loop-module.given) (given new.self) (g.M.Mangler.name_of now) (g.M.Mangler.name_of new.mangler) c.add_table-in-loop-module.ensures.same (g.M.Mangler.recorded now) (g.M.Mangler.recorded new.mangler) (record {
             t = t;
@@ -87,19 +91,21 @@ loop-module-preserved g c =
             gives = c.in_ok-add_table-2.ensures.given;
             others = c.add_table-in-loop-module.ensures.others;
             keeps = c.add_table-in-loop-module.ensures.keeps;
-            wrote = c.in_ok-add_table-2.ensures.recorded;
+            wrote = subst (λ (b : Bool). HasNone t.path (given c.loop-module.given) → IsRecordedBy b (writes_of (g.M.Mangler.name_of now) (path_view m.path) (firsts (declared_texts (numbering l.numbers) t.declarations))) (g.M.Mangler.recorded now) (g.M.Mangler.recorded new.mangler))
+                c.loop-module.invariant.same_writing c.in_ok-add_table-2.ensures.recorded;
           }) c.loop-module.invariant.mangles;
       same_variants = λ ns i n ts. c.add_table-in-loop-module.ensures.same_variants ns i n ts ∙ c.loop-module.invariant.same_variants ns i n ts;
+      same_writing = c.add_table-in-loop-module.ensures.same_writing ∙ c.loop-module.invariant.same_writing;
     }
 
 pub returns-clause-given : goal.returns-clause-given
 returns-clause-given g c =
-    ends c.args.link.now (g.M.Mangler.name_of c.args.mangler.now) g.M.Mangler.writes c.requires.sound.once c.args.mangle_root (g.M.Mangler.recorded c.args.mangler.now) _
+    ends c.args.link.now (g.M.Mangler.name_of c.args.mangler.now) (g.M.Mangler.writes c.args.mangler.now) c.requires.sound.once c.args.mangle_root (g.M.Mangler.recorded c.args.mangler.now) _
     (take_all c.loop-module.module-index c.deref-module-items.result.now c.loop-module-test.false ∙ c.deref-module-items.ensures.value) (given c.loop-module.given) (g.M.Mangler.name_of c.loop-module.mangler) (g.M.Mangler.recorded c.loop-module.mangler) c.loop-module.invariant.mangles
 
 pub returns-clause-recorded : goal.returns-clause-recorded
 returns-clause-recorded g c =
-    ends_recorded c.args.link.now (g.M.Mangler.name_of c.args.mangler.now) g.M.Mangler.writes c.requires.sound.once c.args.mangle_root (g.M.Mangler.recorded c.args.mangler.now) _
+    ends_recorded c.args.link.now (g.M.Mangler.name_of c.args.mangler.now) (g.M.Mangler.writes c.args.mangler.now) c.requires.sound.once c.args.mangle_root (g.M.Mangler.recorded c.args.mangler.now) _
     (take_all c.loop-module.module-index c.deref-module-items.result.now c.loop-module-test.false ∙ c.deref-module-items.ensures.value) (given c.loop-module.given) (g.M.Mangler.name_of c.loop-module.mangler) (g.M.Mangler.recorded c.loop-module.mangler) c.loop-module.invariant.mangles
 
 pub returns-clause-same : goal.returns-clause-same

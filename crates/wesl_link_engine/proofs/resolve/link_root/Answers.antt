@@ -2,7 +2,7 @@ use Rattle.std.proofs.Common.{◌≡◌, Bool, false, refl, sym, subst, ◌∙�
 use Rattle.std.proofs.lemmas.Result.{IfOk-weaker, IfErr-weaker}
 use Rattle.wesl_link_engine.specs.Asking.{request_view, kept_of}
 use Rattle.wesl_tree_names.specs.Path.{is_relative}
-use Rattle.wesl_link_engine.specs.Refusal.{TellsOf}
+use Rattle.wesl_link_engine.specs.Refusal.{TellsFault}
 use Rattle.wesl_link_engine.specs.Resolved.{module_at}
 use Rattle.wesl_link_engine.specs.Keeping.{modules_of, turns_of}
 use Rattle.wesl_link_engine.specs.Worlds.{Module, task_of, IsLinked, IsModuleOrder, IsRefused}
@@ -44,8 +44,8 @@ returns-clause-refused g c =
     let old = c.in-Some.tabled.root in
     let rm = module_at c.args.request.now.root.now c.args.unit in
     IfErr-weaker c.reach_modules.result _ _ (λ d h.
-    subst (λ (b : Bool). TellsOf (IsRefused hands refuses rm (task_of rm keep b) c.args.request.now.max_modules) d.error) c.in-Some.ensures.eager
-    (subst (λ (m : Module). TellsOf (IsRefused hands refuses m (task_of m keep old.is_eager) c.args.request.now.max_modules) d.error) c.in-Some.ensures.module h))
+    subst (λ (b : Bool). TellsFault (IsRefused hands refuses rm (task_of rm keep b) c.args.request.now.max_modules) d) c.in-Some.ensures.eager
+    (subst (λ (m : Module). TellsFault (IsRefused hands refuses m (task_of m keep old.is_eager) c.args.request.now.max_modules) d) c.in-Some.ensures.module h))
     (c.reach_modules.ensures.refused keep c.in-Some.ensures.kept)
 
 pub returns-clause-sound : goal.returns-clause-sound

@@ -1,5 +1,6 @@
 use Rattle.std.proofs.Common.{◌≡◌, List, drop, subst, sym, ap, ◌∙◌}
 use Rattle.wesl_tree_names.specs.Path.{path_view}
+use Rattle.wesl_tree_names.specs.Errors.{IsBare}
 use Rattle.wesl_tree_syntax.specs.Unit.{spelled}
 use Rattle.wesl_tree.specs.Translation.{unit_view}
 use Rattle.wesl_tree_base.specs.declared.ids.NameId.{NameId}
@@ -144,7 +145,7 @@ returns-in-Ok-found_of-clause-reached g c =
     }
 
 pub returns-in-Err-found_of-clause-refused : goal.returns-in-Err-found_of-clause-refused
-returns-in-Err-found_of-clause-refused g c = λ keep same. memory_told (IsRefused g.S.Source.hands g.S.Source.refuses (module_at c.args.tabled.root.path c.args.tabled.root.unit) (worlds.task_of (module_at c.args.tabled.root.path c.args.tabled.root.unit) keep c.args.tabled.root.is_eager) c.args.max_modules) c.in-Err-found_of.error c.of.result c.of.ensures c.in-Err-found_of.ensures.refused
+returns-in-Err-found_of-clause-refused g c = λ keep same. memory_told (IsRefused g.S.Source.hands g.S.Source.refuses (module_at c.args.tabled.root.path c.args.tabled.root.unit) (worlds.task_of (module_at c.args.tabled.root.path c.args.tabled.root.unit) keep c.args.tabled.root.is_eager) c.args.max_modules) c.of.result (subst (λ e. IsBare e c.of.result) c.in-Err-found_of.ensures.refused c.of.ensures)
 
 pub returns-in-Err-clause-refused : goal.returns-in-Err-clause-refused
 returns-in-Err-clause-refused g c =
@@ -158,7 +159,7 @@ returns-in-Err-clause-refused g c =
     let grown : Grows first nb = subst (λ (x : Numbering). Grows x nb) c.requires.first kept.grows in
     let rm = module_at c.args.tabled.root.path c.args.tabled.root.unit in
     let explained = subst (λ (ks : List NameId). IsExplained (IsHandedTable g.S.Source.hands nb end.units.now.entries) (IsRefusedPath g.S.Source.refuses nb) c.args.tabled.table (task_of c.args.tabled.table ks c.args.tabled.root.is_eager) c.args.max_modules c.in-Err.fault) c.requires.again c.in-Err.ensures.refused in
-    λ keep same. told_by (IsRefused g.S.Source.hands g.S.Source.refuses rm (worlds.task_of rm keep c.args.tabled.root.is_eager) c.args.max_modules) nb c.in-Err.fault c.diagnostic_of.result c.diagnostic_of.ensures (reach_refused first nb grown g.S.Source.hands g.S.Source.refuses end.units.now.entries kept.one_unit c.args.tabled.table rm c.requires.root end.numbers.now.paths.different end.numbers.now.names.different end.numbers.now.paths.asked c.args.tabled.root.kept.items keep same c.args.tabled.root.is_eager c.args.max_modules c.in-Err.fault c.diagnostic_of.result.error explained)
+    λ keep same. told_by (IsRefused g.S.Source.hands g.S.Source.refuses rm (worlds.task_of rm keep c.args.tabled.root.is_eager) c.args.max_modules) nb c.in-Err.fault c.diagnostic_of.result c.diagnostic_of.ensures (reach_refused first nb grown g.S.Source.hands g.S.Source.refuses end.units.now.entries kept.one_unit c.args.tabled.table rm c.requires.root end.numbers.now.paths.different end.numbers.now.names.different end.numbers.now.paths.asked c.args.tabled.root.kept.items keep same c.args.tabled.root.is_eager c.args.max_modules c.in-Err.fault explained)
 
 pub returns-in-Ok-found_of-clause-these : goal.returns-in-Ok-found_of-clause-these
 returns-in-Ok-found_of-clause-these g c =

@@ -9,7 +9,7 @@ returns-then-max_modules-eq0-clause-refused g c =
 
 pub returns-in-Some-clause-refused : goal.returns-in-Some-clause-refused
 returns-in-Some-clause-refused g c =
-    root_refused (g.L.Loader.hands c.args.loader.now) (g.L.Loader.refuses c.args.loader.now) c.args.root (task_of c.args.root c.args.kept.items c.args.is_eager) c.args.max_modules c.in-Some.name refl c.in-Some.ensures.clash
+    rw c.path-in-Some.ensures (root_refused (g.L.Loader.hands c.args.loader.now) (g.L.Loader.refuses c.args.loader.now) c.args.root (task_of c.args.root c.args.kept.items c.args.is_eager) c.args.max_modules c.in-Some.name refl c.in-Some.ensures.clash)
 
 pub returns-then-is_crowded-clause-refused : goal.returns-then-is_crowded-clause-refused
 returns-then-is_crowded-clause-refused g c =

@@ -8,7 +8,7 @@ returns-then-is_crowded-clause-refused g c =
 
 pub returns-in-Some-clause-refused : goal.returns-in-Some-clause-refused
 returns-in-Some-clause-refused g c =
-    clash_refused (g.L.Loader.refuses c.args.loader.now) c.args.table c.in-Some.name c.requires.sound c.requires.handed c.requires.entered c.requires.absent c.in-Some.ensures.clash
+    rw c.path-in-Some.ensures (clash_refused (g.L.Loader.refuses c.args.loader.now) c.args.table c.in-Some.name c.requires.sound c.requires.handed c.requires.entered c.requires.absent c.in-Some.ensures.clash)
 
 pub returns-clause-sound : goal.returns-clause-sound
 returns-clause-sound g c =

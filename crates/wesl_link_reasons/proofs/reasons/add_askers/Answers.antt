@@ -1,12 +1,13 @@
 use Rattle.std.proofs.Common.{◌<◌, length, arith, rules}
 use Rattle.std.proofs.lemmas.Option.{slice_get-get_or}
-use Rattle.wesl_link_reasons.proofs.Ending.{back_start, back_next, back_ends}
+use Rattle.wesl_link_reasons.proofs.Ending.{back_start, back_next, back_ends, behind_start, behind_next}
 use Rattle.wesl_link_reasons.proofs.reasons.add_askers.Goals as goal
 
 pub askers-init : goal.askers-init
 askers-init c = record {
   within = c.requires.within;
   back = back_start c.args.nodes.now c.args.place _ _ _ (slice_get-get_or c.args.nodes.now c.args.place _ c.requires.within) c.requires.empty c.in_ok-push.ensures.items;
+  behind = behind_start c.args.nodes.now c.args.place _ _ _ (slice_get-get_or c.args.nodes.now c.args.place _ c.requires.within) c.requires.empty c.in_ok-push.ensures.items;
 }
 
 pub offset_bounds-nodes-asker : goal.offset_bounds-nodes-asker
@@ -37,7 +38,8 @@ askers-preserved c =
       within = below;
       back = back_next c.args.nodes.now c.args.place c.askers.at c.in-Some.asker _ _ _ _ c.askers.invariant.back (slice_get-get_or c.args.nodes.now c.askers.at _ here) c.in-Some.is
           (slice_get-get_or c.args.nodes.now c.in-Some.asker _ below) c.in_ok-push-2.ensures.items;
+      behind = behind_next c.args.nodes.now c.askers.at c.in-Some.asker _ _ _ c.requires.once c.askers.invariant.behind (slice_get-get_or c.args.nodes.now c.in-Some.asker _ below) before c.in_ok-push-2.ensures.items;
     }
 
-pub returns : goal.returns
-returns c = back_ends c.args.nodes.now c.args.place c.askers.at _ c.askers.chain.items c.askers.invariant.back (slice_get-get_or c.args.nodes.now c.askers.at _ c.askers.invariant.within) c.in_default.is
+pub returns-clause-told : goal.returns-clause-told
+returns-clause-told c = back_ends c.args.nodes.now c.args.place c.askers.at _ c.askers.chain.items c.askers.invariant.back (slice_get-get_or c.args.nodes.now c.askers.at _ c.askers.invariant.within) c.in_default.is

@@ -1,8 +1,7 @@
 use Rattle.std.proofs.Common.{◌≡◌, ℕ, zero, suc, ◌+◌, ◌<◌, Bool, List, [], ◌∷◌, ◌++◌, length, ap, subst, sym, ◌∙◌, arith}
-use Rattle.std.specs.List.{list_any}
-use Rattle.std.specs.Prelude.{bytes_eq}
 use Rattle.std.proofs.lemmas.List.{length-append}
 use Rattle.wesl_scope_strip.specs.Marks.{mark_at}
+use Rattle.wesl_scope_strip.specs.Sets.{is_text_of}
 use Rattle.wesl_scope_strip.proofs.kept.named.Goals as goal
 
 -- one more mark, at the end
@@ -19,8 +18,8 @@ next test old new i b len h e at m lt =
 
 pub loop-i-preserved : goal.loop-i-preserved
 loop-i-preserved c = record {
-  all = ap length c.in_ok-push.ensures.items ∙ length-append c.loop-i.wanted.items (c.is_among.result ∷ []) ∙ ap (λ n. n + 1) c.loop-i.invariant.all;
+  all = ap length c.in_ok-push.ensures.items ∙ length-append c.loop-i.wanted.items (c.contains.result ∷ []) ∙ ap (λ n. n + 1) c.loop-i.invariant.all;
   marked =
-      next _ c.loop-i.wanted.items c.push.new.self.items c.loop-i.i c.is_among.result c.loop-i.invariant.all c.loop-i.invariant.marked c.in_ok-push.ensures.items
-      (c.is_among.ensures ∙ ap (λ n. list_any (λ k. bytes_eq k.now n) c.args.keep.now) c.name.ensures);
+      next _ c.loop-i.wanted.items c.push.new.self.items c.loop-i.i c.contains.result c.loop-i.invariant.all c.loop-i.invariant.marked c.in_ok-push.ensures.items
+      (c.contains.ensures ∙ c.in_ok-kept.ensures c.name.result ∙ ap (is_text_of c.args.keep.now) c.name.ensures);
 }

@@ -20,7 +20,7 @@ returns-then-is_some-clause-recorded g c = unless_some (given c.args.self.now c.
 
 pub returns-clause-recorded : goal.returns-clause-recorded
 returns-clause-recorded g c = λ x.
-    ok_on c.mangle.result c.in-Some.name c.in-Some.ensures.value c.mangle.ensures.written x ∙ ap (λ o. written_unless o g.M.Mangler.writes (g.M.Mangler.name_of c.args.mangler.now (path_view c.args.path.now) c.args.item.now) (path_view c.args.path.now, c.args.item.now) (g.M.Mangler.recorded c.args.mangler.now) x)
+    ok_on c.mangle.result c.in-Some.name c.in-Some.ensures.value c.mangle.ensures.written x ∙ ap (λ o. written_unless o (g.M.Mangler.writes c.args.mangler.now) (g.M.Mangler.name_of c.args.mangler.now (path_view c.args.path.now) c.args.item.now) (path_view c.args.path.now, c.args.item.now) (g.M.Mangler.recorded c.args.mangler.now) x)
     (sym (sym c.get.ensures ∙ none_of (λ x. x.now) c.get.result c.if-is_some.ensures))
 
 pub returns-clause-others : goal.returns-clause-others

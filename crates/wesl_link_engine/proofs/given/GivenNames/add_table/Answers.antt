@@ -26,21 +26,23 @@ loop-declaration-preserved g c =
             names = more_named _ _ _ _ _ _ c.loop-declaration-test.true c.declaration-item.is _ _ _ _ _ _ _ w.path.ensures w.in-Some.ensures w.in-Some-name.ensures.found
                 (c.loop-declaration.invariant.same _ _) w.in_ok-add_name.ensures.gives w.in_ok-add_name.ensures.others w.in_ok-add_name.ensures.keeps c.loop-declaration.invariant.names;
             recorded = λ none.
-                recording.more_named (numbering c.args.numbers.now) c.args.numbers.now.names.different (g.M.Mangler.name_of c.args.mangler.now) (path_view c.args.path.now) c.args.table.now.path g.M.Mangler.writes (g.M.Mangler.recorded c.args.mangler.now) (given c.args.self.now) none
+                recording.more_named (numbering c.args.numbers.now) c.args.numbers.now.names.different (g.M.Mangler.name_of c.args.mangler.now) (path_view c.args.path.now) c.args.table.now.path (g.M.Mangler.writes c.args.mangler.now) (g.M.Mangler.recorded c.args.mangler.now) (given c.args.self.now) none
                 _ _ _ c.loop-declaration-test.true c.declaration-item.is _ _ _ w.path.ensures w.in-Some.ensures w.in-Some-name.ensures.found
                 (recording.texts_of (numbering c.args.numbers.now) c.args.table.now c.requires.numbered _ c.loop-declaration.declaration-index c.declarations-declaration-items.ensures)
-                _ _ c.loop-declaration.invariant.names _ _ _ (c.loop-declaration.invariant.same _ _) w.in_ok-add_name.ensures.recorded (c.loop-declaration.invariant.recorded none);
+                _ _ c.loop-declaration.invariant.names _ _ _ (c.loop-declaration.invariant.same _ _) _ c.loop-declaration.invariant.same_writing w.in_ok-add_name.ensures.recorded (c.loop-declaration.invariant.recorded none);
             same = λ p i. w.in_ok-add_name.ensures.same p i ∙ c.loop-declaration.invariant.same p i;
             same_variants = λ ns i n ts. w.in_ok-add_name.ensures.same_variants ns i n ts ∙ c.loop-declaration.invariant.same_variants ns i n ts;
+            same_writing = w.in_ok-add_name.ensures.same_writing ∙ c.loop-declaration.invariant.same_writing;
           })
       | in_default w ↦
           rw (w.self-is, w.mangler-is) (record {
             names = more_unnamed _ _ _ _ _ _ c.loop-declaration-test.true c.declaration-item.is _ _ w.in_default.ensures c.loop-declaration.invariant.names;
             recorded = λ none.
-                recording.more_unnamed (numbering c.args.numbers.now) c.args.numbers.now.names.different (g.M.Mangler.name_of c.args.mangler.now) (path_view c.args.path.now) c.args.table.now.path g.M.Mangler.writes (g.M.Mangler.recorded c.args.mangler.now) (given c.args.self.now) none
+                recording.more_unnamed (numbering c.args.numbers.now) c.args.numbers.now.names.different (g.M.Mangler.name_of c.args.mangler.now) (path_view c.args.path.now) c.args.table.now.path (g.M.Mangler.writes c.args.mangler.now) (g.M.Mangler.recorded c.args.mangler.now) (given c.args.self.now) none
                 _ _ _ c.loop-declaration-test.true c.declaration-item.is _ w.in_default.ensures (c.loop-declaration.invariant.recorded none);
             same = c.loop-declaration.invariant.same;
             same_variants = c.loop-declaration.invariant.same_variants;
+            same_writing = c.loop-declaration.invariant.same_writing;
           })
     ]
 
@@ -50,11 +52,11 @@ returns-clause-given g c = gives_all _ _ c.args.table.now _ _ _ _ c.declarations
 pub returns-clause-recorded : goal.returns-clause-recorded
 returns-clause-recorded g c = λ none x.
     c.loop-declaration.invariant.recorded none x
-    ∙ ap (λ ds. all_written g.M.Mangler.writes (writes_of (g.M.Mangler.name_of c.args.mangler.now) (path_view c.args.path.now) (firsts (declared_texts (numbering c.args.numbers.now) ds))) (g.M.Mangler.recorded c.args.mangler.now) x)
+    ∙ ap (λ ds. all_written (g.M.Mangler.writes c.args.mangler.now) (writes_of (g.M.Mangler.name_of c.args.mangler.now) (path_view c.args.path.now) (firsts (declared_texts (numbering c.args.numbers.now) ds))) (g.M.Mangler.recorded c.args.mangler.now) x)
     (take_all c.loop-declaration.declaration-index _ c.loop-declaration-test.false ∙ c.declarations-declaration-items.ensures)
 
 pub loop-declaration-init : goal.loop-declaration-init
-loop-declaration-init g c = record { names = names_none (numbering c.args.numbers.now) (g.M.Mangler.name_of c.args.mangler.now (path_view c.args.path.now)) c.args.table.now.path (given c.args.self.now); recorded = λ none x. refl; same = λ p i. refl; same_variants = λ ns i n ts. refl }
+loop-declaration-init g c = record { names = names_none (numbering c.args.numbers.now) (g.M.Mangler.name_of c.args.mangler.now (path_view c.args.path.now)) c.args.table.now.path (given c.args.self.now); recorded = λ none x. refl; same = λ p i. refl; same_variants = λ ns i n ts. refl; same_writing = refl }
 
 pub returns-clause-undeclared : goal.returns-clause-undeclared
 returns-clause-undeclared g c = undeclared_stay _ _ c.args.table.now _ _ _ _ c.declarations-declaration-items.ensures c.loop-declaration.invariant.names
@@ -75,3 +77,6 @@ returns-in_err-add_name-clause-same g c = λ p i. c.add_name.ensures.same p i �
 
 pub returns-in_err-add_name-clause-same_variants : goal.returns-in_err-add_name-clause-same_variants
 returns-in_err-add_name-clause-same_variants g c = λ ns i n ts. c.add_name.ensures.same_variants ns i n ts ∙ c.loop-declaration.invariant.same_variants ns i n ts
+
+pub returns-in_err-add_name-clause-same_writing : goal.returns-in_err-add_name-clause-same_writing
+returns-in_err-add_name-clause-same_writing g c = c.add_name.ensures.same_writing ∙ c.loop-declaration.invariant.same_writing

@@ -21,8 +21,8 @@ returns-clause-recorded g c =
     let f = g.M.Mangler.name_of c.args.mangler.now in
     elim c.match-self.branch [
       | in-Some+in_ok-self w ↦
-          rw w.mangler-is (recorded_found c.args.self.now w.in-Some.link w.in-Some.is g.M.Mangler.writes f c.args.mangle_root (g.M.Mangler.recorded c.args.mangler.now) _ w.in_ok-self.ensures.recorded)
-      | in_default w ↦ rw w.mangler-is (recorded_none c.args.self.now w.in_default.not-Some g.M.Mangler.writes f c.args.mangle_root (g.M.Mangler.recorded c.args.mangler.now))
+          rw w.mangler-is (recorded_found c.args.self.now w.in-Some.link w.in-Some.is (g.M.Mangler.writes c.args.mangler.now) f c.args.mangle_root (g.M.Mangler.recorded c.args.mangler.now) _ w.in_ok-self.ensures.recorded)
+      | in_default w ↦ rw w.mangler-is (recorded_none c.args.self.now w.in_default.not-Some (g.M.Mangler.writes c.args.mangler.now) f c.args.mangle_root (g.M.Mangler.recorded c.args.mangler.now))
     ]
 
 pub names_of-requires : goal.names_of-requires

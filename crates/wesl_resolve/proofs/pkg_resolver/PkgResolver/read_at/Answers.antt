@@ -1,6 +1,6 @@
-use Rattle.std.proofs.Common.{sym, ◌∙◌, subst, inl, inr, ⊎_elim}
-use Rattle.wesl_tree_names.specs.Path.{Text}
-use Rattle.wesl_tree_names.specs.Errors.{IsRefusedFor}
+use Rattle.std.proofs.Common.{None, Some, sym, ◌∙◌, subst, inl, inr, ⊎_elim}
+use Rattle.wesl_tree_names.specs.Path.{Text, path_view}
+use Rattle.wesl_resolve_base.specs.Refusals.{IsToldRefusal}
 use Rattle.wesl_tree_syntax.specs.Unit.{spelled}
 use Rattle.wesl_tree.specs.Translation.{unit_view}
 use Rattle.wesl_tree.specs.declared.unit.TranslationUnit.{TranslationUnit}
@@ -16,7 +16,7 @@ returns-in-Ok-clause-read g c =
 pub returns-in-Ok-clause-refused : goal.returns-in-Ok-clause-refused
 returns-in-Ok-clause-refused g c =
     let found = c.in-Ok.ensures.found in
-    refused-to _ _ (λ e h. inr (found.0, found.1, subst (λ text. IsRefusedFor (g.P.UnitText.unreadable c.args.self.now.text text) e) (c.as_str.ensures.value ∙ sym found.2) h)) c.read_module.result c.read_module.ensures.refused
+    refused-to _ _ (λ e h. inr (found.0, found.1, subst (λ text. IsToldRefusal (g.P.UnitText.unreadable c.args.self.now.text text) (path_view c.args.path.now) None (Some text) e) (c.as_str.ensures.value ∙ sym found.2) h)) c.read_module.result c.read_module.ensures.refused
 
 pub returns-in-Err-clause-read : goal.returns-in-Err-clause-read
 returns-in-Err-clause-read g c = tt

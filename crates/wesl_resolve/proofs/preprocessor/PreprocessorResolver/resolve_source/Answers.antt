@@ -1,3 +1,4 @@
+use Rattle.std.proofs.Common.{refl}
 use Rattle.wesl_resolve.proofs.PreprocessorLemmas.{Preprocessor-same}
 use Rattle.wesl_resolve.proofs.preprocessor.PreprocessorResolver.resolve_source.Goals as goal
 
@@ -18,3 +19,9 @@ returns-clause-stays_ready g c = (c.resolve_source.ensures.stays_ready, c.requir
 
 pub returns-clause-same : goal.returns-clause-same
 returns-clause-same g c = Preprocessor-same g.R.Resolver.hands g.R.Resolver.refuses g.R.Resolver.source g.R.Resolver.lacks g.R.Resolver.shown (goal.F-post g) c.args.self.now c.resolve_source.new.self c.resolve_source.ensures.same
+
+pub returns-clause-resolver : goal.returns-clause-resolver
+returns-clause-resolver g c = c.resolve_source.ensures.same
+
+pub returns-clause-preprocess : goal.returns-clause-preprocess
+returns-clause-preprocess g c = refl

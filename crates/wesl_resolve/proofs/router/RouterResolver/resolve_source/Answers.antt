@@ -1,7 +1,8 @@
 use Rattle.std.proofs.Common.{inl, inr, ⊎_elim, arith, string_bytes}
 use Rattle.wesl_tree_names.specs.Path.{path_view}
-use Rattle.wesl_resolve_base.proofs.ResultLemmas.{IfOk-to, refused-to}
-use Rattle.wesl_resolve.proofs.RouterLemmas.{Takes-read, Takes-fits, Routed-by, RouterMeans-set, RouterMeans-fallback, AllReady-set, LeavesOthers-set, LeavesOthers-fallback, LeavesOthers-same, TakenByNone-read, Routed-beside, AllReady-beside, ready-beside, RouterMeans-same}
+use Rattle.wesl_resolve_base.specs.Resolver.{MeansTheSame}
+use Rattle.wesl_resolve_base.proofs.ResultLemmas.{means-itself, IfOk-to, refused-to}
+use Rattle.wesl_resolve.proofs.RouterLemmas.{KeepsEach-set, KeepsEach-fallback, KeepsEach-same, Takes-read, Takes-fits, Routed-by, RouterMeans-set, RouterMeans-fallback, AllReady-set, LeavesOthers-set, LeavesOthers-fallback, LeavesOthers-same, TakenByNone-read, Routed-beside, AllReady-beside, ready-beside, RouterMeans-same}
 use Rattle.std.proofs.lemmas.Option.{slice_get_within}
 use Rattle.wesl_resolve.proofs.router.RouterResolver.resolve_source.Goals as goal
 
@@ -112,3 +113,19 @@ returns-in-None-fallback-clause-others g c =
 
 pub index_mut-mount-requires : goal.index_mut-mount-requires
 index_mut-mount-requires g c = omega (arith, c.deref.ensures.len, slice_get_within c.deref.result.now c.in-Some.place c.in-Some.ensures.0 c.in-Some.ensures.1.there)
+
+pub returns-in-Some-clause-each : goal.returns-in-Some-clause-each
+returns-in-Some-clause-each g c =
+    let mounts = c.args.self.now.mount_points.items in
+    let p = path_view c.args.path.now in
+    let m = c.index_mut-mount.result.now in
+    let taken = Takes-read c.deref.result.now mounts p c.in-Some.place m c.deref.ensures.value c.in-Some.ensures c.index_mut-mount.ensures.value in
+    KeepsEach-set (MeansTheSame g.B.Resolver.hands g.B.Resolver.refuses g.B.Resolver.source g.B.Resolver.lacks g.B.Resolver.shown) (means-itself g.B.Resolver.hands g.B.Resolver.refuses g.B.Resolver.source g.B.Resolver.lacks g.B.Resolver.shown) mounts c.args.self.now.fallback c.in-Some.place m c.source_after.new.resolver taken.there c.source_after.ensures.same
+
+pub returns-in-Some-fallback-clause-each : goal.returns-in-Some-fallback-clause-each
+returns-in-Some-fallback-clause-each g c =
+    KeepsEach-fallback (MeansTheSame g.B.Resolver.hands g.B.Resolver.refuses g.B.Resolver.source g.B.Resolver.lacks g.B.Resolver.shown) (means-itself g.B.Resolver.hands g.B.Resolver.refuses g.B.Resolver.source g.B.Resolver.lacks g.B.Resolver.shown) c.args.self.now.mount_points.items c.args.self.now.fallback _ c.source_after-in-Some-fallback.new.resolver c.in-Some-fallback.is c.source_after-in-Some-fallback.ensures.same
+
+pub returns-in-None-fallback-clause-each : goal.returns-in-None-fallback-clause-each
+returns-in-None-fallback-clause-each g c =
+    KeepsEach-same (MeansTheSame g.B.Resolver.hands g.B.Resolver.refuses g.B.Resolver.source g.B.Resolver.lacks g.B.Resolver.shown) (means-itself g.B.Resolver.hands g.B.Resolver.refuses g.B.Resolver.source g.B.Resolver.lacks g.B.Resolver.shown) c.args.self.now.mount_points.items c.args.self.now.fallback

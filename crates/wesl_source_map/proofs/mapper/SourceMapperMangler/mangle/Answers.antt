@@ -12,6 +12,7 @@ returns-in-Err g c = record {
   refused = c.in-Err.ensures.refused;
   same = c.in-Err.ensures.same;
   same_variants = c.in-Err.ensures.same_variants;
+  reads = c.in-Err.ensures.reads;
   inner = tt;
   inner_left = inl c.in-Err.ensures.unwritten;
   resolver = refl;

@@ -1,0 +1,7 @@
+mod Numbers
+mod Bare
+mod Short
+mod Counted
+mod Renamed
+mod Lists
+mod Spans

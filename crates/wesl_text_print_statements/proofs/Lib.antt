@@ -1,0 +1,7 @@
+pub mod Rows
+pub mod Attributes
+pub mod Targets
+pub mod Variables
+pub mod Views
+pub mod SimpleStatements
+pub mod Bodies

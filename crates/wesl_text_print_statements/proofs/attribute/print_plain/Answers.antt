@@ -1,0 +1,8 @@
+use Rattle.wesl_text_print.proofs.Adding.{lawful, one, then}
+use Rattle.wesl_text_print_statements.proofs.attribute.print_plain.Goals as goal
+
+pub returns : goal.returns
+returns g c =
+    let l = lawful g.met.S.TokenSink.none g.met.S.TokenSink.more in
+    let steps = then l (one l c.symbol.ensures) (one l c.keyword.ensures) in
+    steps

@@ -1,0 +1,8 @@
+use Rattle.wesl_text_print.proofs.Adding.{after_blank, lawful, none, one, then}
+use Rattle.wesl_text_print_statements.proofs.statement.print_break_if.Goals as goal
+
+pub returns : goal.returns
+returns g c =
+    let l = lawful g.met.S.TokenSink.none g.met.S.TokenSink.more in
+    let steps = then l c.print_attributes.ensures (then l (one l c.keyword.ensures) (after_blank l c.space.ensures (then l (one l c.keyword-2.ensures) (after_blank l c.space-2.ensures (then l c.print_expression.ensures (then l (one l c.symbol.ensures) (none l))))))) in
+    steps

@@ -1,0 +1,8 @@
+use Rattle.wesl_text_print.proofs.Adding.{after_blank, lawful, one, then}
+use Rattle.wesl_text_print_unit.proofs.declaration.print_struct.Goals as goal
+
+pub returns : goal.returns
+returns g c =
+    let l = lawful g.met.S.TokenSink.none g.met.S.TokenSink.more in
+    let steps = then l c.print_attributes.ensures (then l (one l c.keyword.ensures) (after_blank l c.space.ensures (then l c.print_name.ensures (after_blank l c.space-2.ensures (then l (one l c.symbol.ensures) (after_blank l c.indent.ensures (then l c.print_members.ensures (after_blank l c.outdent.ensures c.close_members.ensures)))))))) in
+    steps

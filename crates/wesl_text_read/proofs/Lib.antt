@@ -1,0 +1,15 @@
+pub mod Leading
+pub mod First
+pub mod Among
+pub mod Naming
+pub mod Levels
+pub mod Chains
+pub mod Paths
+pub mod After
+pub mod Rows
+pub mod Types
+pub mod Lists
+pub mod Trees
+pub mod Expressions
+pub mod WordLists
+pub mod Attributes

@@ -1,0 +1,7 @@
+use Rattle.std.proofs.Common.{refl, rules}
+use Rattle.wesl_text_read.proofs.Leading.{wants_memory}
+use Rattle.wesl_text_read.proofs.Naming.{numbered}
+use Rattle.wesl_text_read.proofs.reader.Reader.number.Goals as goal
+
+pub returns-in-Ok : goal.returns-in-Ok
+returns-in-Ok c = numbered _ _ _ _ refl refl refl (search rules) (search rules)

@@ -1,0 +1,19 @@
+//! Expressions, types and calls of shader text, read from its tokens.
+#![tactic(auto)]
+
+mod attribute;
+mod attribute_word;
+mod chain;
+mod class;
+mod expression;
+mod leaves;
+mod list;
+mod operators;
+mod path;
+mod reader;
+mod word_list;
+mod words;
+
+pub use class::{Class, Within};
+pub use reader::{Expected, Fault, Reader};
+pub use words::is_free;

@@ -1,5 +1,0 @@
-use Rattle.std.proofs.Common.{rules}
-use Rattle.wesl_tree_names.proofs.errors.ErrorFromResolveError.from.Goals as goal
-
-pub returns : goal.returns
-returns c = search rules
