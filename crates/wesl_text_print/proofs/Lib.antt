@@ -3,4 +3,3 @@ pub mod Views
 pub mod Lists
 pub mod Expressions
 pub mod Paths
-pub mod Operands

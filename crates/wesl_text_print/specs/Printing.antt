@@ -14,10 +14,8 @@ use Rattle.wesl_tree_syntax.specs.declared.expression.Literal.{Literal}
 use Rattle.wesl_tree_syntax.specs.declared.expression.Literal.TheVariants as literals
 use Rattle.wesl_text_tokens.specs.declared.symbol.Symbol.TheVariants as is
 use Rattle.wesl_text_tokens.specs.Tokens.{symbol, open_list, close_list}
-use Rattle.wesl_text_print.specs.declared.operand.OperandClass.{OperandClass}
-use Rattle.wesl_text_print.specs.declared.operand.OperandClass.TheVariants as operand
 use Rattle.wesl_text_form.specs.Names.{is_name, is_origin}
-use Rattle.wesl_text_form.specs.Operators.{Class, class_of, operator_class, prefixed, primary}
+use Rattle.wesl_text_form.specs.Operators.{Class, class_of}
 use Rattle.wesl_text_form.specs.Slots.{may, must}
 use Rattle.wesl_text_form.specs.Productions.{Sort, a_path, an_argument, an_expression}
 use Rattle.wesl_text_form.specs.Spelling.{Slots, followed, leaf_slots, named, origin_slots, provided, signed, slots_as, spells, trailing}
@@ -65,12 +63,6 @@ class_at_node x = class_of (Some (expression_view x).label)
 -- an operand without parentheses; none where its operator takes no such class
 abbrev pub operand_slots : (Class → Bool) → List Text → Expression → Slots
 operand_slots is_taken names x = only_if (is_taken (class_at_node x)) (expression_slots names x)
-
--- the class that the code finds
-abbrev pub class_by : OperandClass → Class
-class_by operand.Primary = primary
-class_by operand.Prefixed = prefixed
-class_by (operand.Operation o) = operator_class o
 
 -- the label of a literal
 abbrev pub literal_label : Literal → LabelOf Text

@@ -10,6 +10,5 @@ pub use expression::{
     end_commas, print_call, print_comma, print_expression, print_expressions, print_name,
     print_type, spelling,
 };
-pub use operand::is_tight;
 pub use path::{print_relative, print_step, print_steps};
 pub use sink::{TokenSink, Unwritable};

@@ -1,6 +1,5 @@
 pub mod Rows
 pub mod Attributes
-pub mod Targets
 pub mod Variables
 pub mod Views
 pub mod SimpleStatements

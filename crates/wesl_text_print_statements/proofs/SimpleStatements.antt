@@ -19,7 +19,7 @@ use Rattle.wesl_text_form.specs.Spelling.{Slots, followed, is_simple, is_wildcar
 use Rattle.wesl_text_print.specs.Printing.{expression_slots, only_if, slots_in}
 use Rattle.wesl_text_print.proofs.Adding.{followed_twice, none_after, nothing_before}
 use Rattle.wesl_text_print_statements.specs.Parts.{attributes_slots}
-use Rattle.wesl_text_print_statements.specs.Targets.{are_apart_in, is_target_in, spelled_in}
+use Rattle.wesl_text_operands.specs.Targets.{are_apart_in, is_target_in, spelled_in}
 use Rattle.wesl_text_print_statements.specs.Variables.{unended_in}
 use Rattle.wesl_text_print_statements.specs.SimpleStatements.{assigned_slots, assignment_tree, simple_slots, stepped_slots, target_slots}
 use Rattle.wesl_text_print_statements.proofs.Variables.{ended_is, ending, local_ended, unended_is}

@@ -1,5 +1,5 @@
 pub mod Parts
-pub mod Targets
+pub mod Wildcards
 pub mod Variables
 pub mod SimpleStatements
 pub mod Bodies

@@ -16,7 +16,7 @@ use Rattle.wesl_text_form.specs.Productions.{a_bare_statement}
 use Rattle.wesl_text_form.specs.Spelling.{Slots, followed, is_simple, is_wildcard, named, signed}
 use Rattle.wesl_text_print.specs.Printing.{expression_slots, only_if}
 use Rattle.wesl_text_print_statements.specs.Parts.{attributes_slots}
-use Rattle.wesl_text_print_statements.specs.Targets.{are_apart_in, is_target_in, spelled_in}
+use Rattle.wesl_text_operands.specs.Targets.{are_apart_in, is_target_in, spelled_in}
 use Rattle.wesl_text_print_statements.specs.Variables.{unended_in}
 
 -- an assignment as a tree

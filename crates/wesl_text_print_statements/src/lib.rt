@@ -4,8 +4,8 @@
 mod attribute;
 mod simple;
 mod statement;
-mod target;
 mod variable;
+mod wildcard;
 
 pub use attribute::{print_attributes, print_diagnostic, print_words};
 pub use statement::{print_body, print_statement};

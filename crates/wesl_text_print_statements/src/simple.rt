@@ -6,8 +6,9 @@ ghost use Rattle.wesl_text_print_statements.specs.SimpleStatements.{assigned_slo
 ghost use Rattle.wesl_tree_syntax.specs.declared.statement.AssignmentOperator.TheVariants as operators;
 
 use crate::attribute::print_attributes;
-use crate::target::{are_apart, is_target, is_wildcard};
 use crate::variable::print_local;
+use crate::wildcard::is_wildcard;
+use wesl_text_operands::{are_apart, is_target};
 use wesl_text_print::{TokenSink, Unwritable, print_call, print_expression};
 use wesl_text_tokens::Symbol;
 use wesl_tree_names::Names;

@@ -18,7 +18,7 @@ use Rattle.wesl_text_form.specs.Spelling.{Slots, followed, is_end, is_kind, name
 use Rattle.wesl_text_print.specs.Printing.{comma_slots, name_slots, only_if, slots_in}
 use Rattle.wesl_text_print.proofs.Adding.{followed_twice, nothing_behind, shows, shows_before, shows_behind}
 use Rattle.wesl_text_print_statements.specs.Parts.{attributes_slots, row_below, row_in}
-use Rattle.wesl_text_print_statements.specs.Targets.{spelled_attributes}
+use Rattle.wesl_text_operands.specs.Targets.{spelled_attributes}
 use Rattle.wesl_text_print_statements.specs.Variables.{has_what_it_needs, kind_label, unended_in, variable_slots}
 use Rattle.wesl_text_print_statements.proofs.Variables.{ended_is, ending, label_named, row_with, stands_ended, unended_is}
 use Rattle.wesl_text_print_unit.specs.Units.{declared_slots, result_slots}

@@ -14,7 +14,7 @@ use Rattle.wesl_text_form.specs.Productions.{a_member, a_path, a_type, an_ident,
 use Rattle.wesl_text_form.specs.Spelling.{Slots, followed, is_end, origin_slots, provided, signed}
 use Rattle.wesl_text_print.specs.Printing.{comma_slots, only_if, slots_in}
 use Rattle.wesl_text_print_statements.specs.Parts.{attributes_slots, row_in}
-use Rattle.wesl_text_print_statements.specs.Targets.{spelled_attributes}
+use Rattle.wesl_text_operands.specs.Targets.{spelled_attributes}
 
 -- the type behind the name of a member or a parameter
 abbrev pub declared_slots : List Text → TypeExpression → Slots

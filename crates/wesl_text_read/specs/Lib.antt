@@ -1,5 +1,5 @@
 pub mod Leads
-pub mod Classes
+pub mod Within
 pub mod First
 pub mod Levels
 pub mod Parts

@@ -15,9 +15,9 @@ ghost use Rattle.wesl_text_read.specs.Levels.{inner};
 ghost use Rattle.wesl_text_read.specs.Parts.{ReadsRow, may_at};
 
 use crate::attribute_word::{AttributeWord, OperandWord, PlainWord, attribute_word};
-use crate::class::Within;
 use crate::path::is_sign;
 use crate::reader::{Expected, Reader};
+use crate::within::Within;
 use wesl_text_tokens::{Symbol, Token};
 use wesl_tree_syntax::{Attribute, AttributeNode, Attributes, ExpressionNode};
 

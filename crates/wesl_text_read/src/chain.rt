@@ -2,13 +2,15 @@
 ghost use Rattle.std.specs.Prelude.{◌≡◌};
 ghost use Rattle.wesl_text_reading.specs.FirstTokens.{binary_first, unary_first};
 ghost use Rattle.wesl_text_reading.specs.Reading.{begins_post, next_operator};
-ghost use Rattle.wesl_text_read.specs.Classes.{allows, class_view};
+ghost use Rattle.wesl_text_operands.specs.Classes.{class_view};
 ghost use Rattle.wesl_text_read.specs.First.{sign_first};
 ghost use Rattle.wesl_text_read.specs.Leads.{ahead};
+ghost use Rattle.wesl_text_read.specs.Within.{allows};
 
-use crate::class::{Class, Within, operator_class, takes_left};
 use crate::operators::{binary_operator, unary_operator};
 use crate::reader::Reader;
+use crate::within::Within;
+use wesl_text_operands::{Class, operator_class, takes_left};
 use wesl_text_tokens::Symbol;
 use wesl_tree_syntax::{BinaryOperator, UnaryOperator};
 

@@ -7,13 +7,14 @@ ghost use Rattle.wesl_text_tokens.specs.declared.symbol.Symbol.TheVariants as sy
 ghost use Rattle.wesl_text_reading.specs.FirstTokens.{behind_first};
 ghost use Rattle.wesl_text_reading.specs.Reading.{at_level, begins_post};
 ghost use Rattle.wesl_text_read.specs.First.{number_first, truth_first, word_first};
-ghost use Rattle.wesl_text_read.specs.Classes.{allows};
+ghost use Rattle.wesl_text_read.specs.Within.{allows};
 ghost use Rattle.wesl_text_read.specs.Leads.{Builds, Reads, ReadsOn, ahead, node};
 ghost use Rattle.wesl_text_read.specs.Levels.{bare_at, component_of, enclosed_at, indexing_at, inner, operand_at, operation_at, operations_at, post_at, posts_at, prefixed_at};
 ghost use Rattle.wesl_text_read.specs.Parts.{ReadsRow, commas_at, list_at, template_at};
 
-use crate::class::{Within, class_of};
 use crate::reader::{Expected, Reader};
+use crate::within::Within;
+use wesl_text_operands::class_of;
 use wesl_text_tokens::Symbol;
 use wesl_tree_syntax::{
     BinaryOperator, Expression, ExpressionNode, FunctionCall, Literal, TemplateArg, TypeExpression,

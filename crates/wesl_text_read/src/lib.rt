@@ -4,16 +4,16 @@
 mod attribute;
 mod attribute_word;
 mod chain;
-mod class;
 mod expression;
 mod leaves;
 mod list;
 mod operators;
 mod path;
 mod reader;
+mod within;
 mod word_list;
 mod words;
 
-pub use class::{Class, Within};
 pub use reader::{Expected, Fault, Reader};
+pub use within::Within;
 pub use words::is_free;

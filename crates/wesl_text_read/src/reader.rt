@@ -29,6 +29,20 @@ pub enum Expected {
     Name,
     /// an expression
     Expression,
+    /// a statement
+    Statement,
+    /// a declaration
+    Declaration,
+    /// what may be assigned to
+    Target,
+    /// a selector of a `switch`
+    Selector,
+    /// a statement that may be a part of a `for`
+    ForPart,
+    /// a member of a structure
+    Member,
+    /// what an import brings in
+    Import,
     /// something that is nested less deep
     FewerLevels,
 }

@@ -335,6 +335,10 @@ expressions_more (suc n) q ts x h =
 one_attribute_more : (n : ℕ) (ts : List Token) (x : TreeOf Text × List Token) → reading n an_attribute ts ≡ Some x → reading (suc n) an_attribute ts ≡ Some x
 one_attribute_more n ts x h = attributes_more n (expressions_more n) ts x h
 
+-- a call is the same one level further down
+pub call_deeper : (n : ℕ) (ts : List Token) (x : TreeOf Text × List Token) → reading n a_call ts ≡ Some x → reading (suc n) a_call ts ≡ Some x
+call_deeper n ts x h = calls_more n (expressions_more n) ts x h
+
 -- trees behind one another
 all_more : (begins : List Token → Bool) (r q : Reader) → ((ts : List Token) (x : TreeOf Text × List Token) → r ts ≡ Some x → q ts ≡ Some x) → (k : ℕ) (ts : List Token) (y : Forest × List Token) → all_of begins r k ts ≡ Some y → all_of begins q k ts ≡ Some y
 all_more begins r q more zero ts y h = h

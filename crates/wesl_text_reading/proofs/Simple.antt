@@ -1,5 +1,6 @@
 -- Statements that end with `;`, and the same without it, as parts of `for`.
 use Rattle.std.proofs.Common.{◌≡◌, ◌⊎◌, ℕ, zero, Bool, true, false, not, ◌&&◌, if◌then◌else◌, List, [], ◌∷◌, length, Option, Some, None, refl, sym as turned, inl, inr, ap, ◌∙◌, subst, codes}
+use Rattle.std.specs.Option.{option_and_then}
 use Rattle.std.proofs.lemmas.Slice.Eq.{bytes_eq-Decides}
 use Rattle.wesl_tree_syntax.specs.Tree.{kind, at, ident, reference, binder, word, assignment, end, tree, before, attributes, expression_node, type_or_identifier, type_expression, absent}
 use Rattle.wesl_tree_syntax.specs.declared.statement.AssignmentOperator.{AssignmentOperator}
@@ -12,7 +13,7 @@ use Rattle.wesl_text_form.specs.Productions.{Sort, an_expression, an_attribute, 
 use Rattle.wesl_text_form.specs.Spelling.{Label, Forest, spells, followed, named, label_at, is_wildcard, is_underscore, first_slots, class_at, from_place, leads_to_place, is_target_at, are_apart, ends_open, begins_enclosed}
 use Rattle.wesl_text_reading.specs.FirstTokens.{begins_sign, begins_word, behind_first, ends_block, label_behind_expression}
 use Rattle.wesl_text_reading.specs.Leaves.{after, where_so}
-use Rattle.wesl_text_reading.specs.Reading.{Reader, node_of, all_of, begins_child, behind_child, behind_attributes, label_of_statement, wildcard, read_target, read_row}
+use Rattle.wesl_text_reading.specs.Reading.{Reader, node_of, all_of, begins_child, behind_attributes, label_of_statement, wildcard, read_target, read_row}
 use Rattle.wesl_text_reading.proofs.Filled.{no_some, no_true, fill, parts, both, one, stands}
 use Rattle.wesl_text_reading.proofs.Takes.{and_parts, chosen, where_true}
 use Rattle.wesl_text_reading.proofs.Classes.{denied}
@@ -71,8 +72,8 @@ module _ (child part : Sort → Reader) (n : ℕ) (parted : ReadsParted child n 
   -- the label of a statement that begins with an expression, by what stands behind it
   pub told : (l : Label) (j : Label) (d : Forest) (vs ws : List Token) → begins_operand vs ≡ true → child an_expression vs ≡ Some (node_of j d, ws) → label_behind_expression ws ≡ Some l → label_of_statement child vs ≡ Some l
   told l j d vs ws b e k =
-      ap (λ z. elim z as (λ _. Option Label) [ None ↦ label_behind_expression (behind_child child an_expression vs) | Some l ↦ Some l ]) (operand_tells_none vs b)
-      ∙ (ap (λ z. label_behind_expression (elim z as (λ _. List Token) [ None ↦ [] | Some x ↦ x.1 ])) e ∙ k)
+      ap (λ z. elim z as (λ _. Option Label) [ None ↦ option_and_then (λ x. label_behind_expression x.1) (child an_expression vs) | Some l ↦ Some l ]) (operand_tells_none vs b)
+      ∙ (ap (λ z. option_and_then (λ x. label_behind_expression x.1) z) e ∙ k)
 
   -- attributes are apart from the expression behind them
   apart_by : (c g o : Forest) (j : Label) (d x : Forest) (row : Row) (vs us : List Token) → c ≡ tree (kind attributes) g o → o ≡ tree j d x → are_apart c ≡ true → leads_to_place o ≡ true → fill ((spells o).row (own an_expression row)) vs ≡ Some us → PartedLast g vs

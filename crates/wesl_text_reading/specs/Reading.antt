@@ -75,9 +75,11 @@ module _ (child : Sort → Reader) where
   begins_row (unended s row) ts = begins_part ts
   begins_row _ ts = false
 
-  -- the label of a statement: by its first token behind attributes, or by what stands behind its first expression
+  -- the label of a statement: by its first token behind attributes, or by what stands behind its first expression; none where no
+  -- expression is read
   abbrev pub label_of_statement : List Token → Option Label
-  label_of_statement ts = elim (statement_label ts) as (λ _. Option Label) [ None ↦ label_behind_expression (behind_child an_expression ts) | Some l ↦ Some l ]
+  label_of_statement ts =
+      elim (statement_label ts) as (λ _. Option Label) [ None ↦ option_and_then (λ x. label_behind_expression x.1) (child an_expression ts) | Some l ↦ Some l ]
 
   -- the label of a node of a sort, by the tokens it begins with
   abbrev pub label_first : Sort → List Token → Option Label

@@ -8,7 +8,8 @@ use Rattle.wesl_text_form.specs.Slots.{comes_first}
 use Rattle.wesl_text_form.specs.Productions.{a_type, an_argument, an_expression, commas, nothing, sym as sign}
 use Rattle.wesl_text_reading.specs.FirstTokens.{begins_expression, begins_sign, unary_first}
 use Rattle.wesl_text_reading.specs.Reading.{begins_post, next_operator}
-use Rattle.wesl_text_read.specs.Classes.{allows, class_view}
+use Rattle.wesl_text_operands.specs.Classes.{class_view}
+use Rattle.wesl_text_read.specs.Within.{allows}
 use Rattle.wesl_text_read.specs.First.{number_first, word_first}
 use Rattle.wesl_text_read.specs.Leads.{Reads, ahead}
 use Rattle.wesl_text_read.specs.declared.reader.Reader.{Reader}

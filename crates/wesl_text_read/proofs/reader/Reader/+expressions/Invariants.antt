@@ -1,7 +1,7 @@
 use Rattle.std.proofs.Common.{◌+◌, ◌*◌}
 use Rattle.wesl_tree_syntax.specs.View.{argument_view, expression_tree}
 use Rattle.wesl_text_form.specs.Productions.{an_argument, an_expression}
-use Rattle.wesl_text_read.specs.Classes.{allows}
+use Rattle.wesl_text_read.specs.Within.{allows}
 use Rattle.wesl_text_read.proofs.Chains.{Chains, Posts}
 use Rattle.wesl_text_read.proofs.Lists.{Lists}
 use Rattle.wesl_text_read.proofs.reader.Reader.+expressions.Given as goal

@@ -1,21 +1,18 @@
 //! Which expressions may be assigned to, and how they begin (WGSL, "Assignment Statement").
-ghost use Rattle.std.specs.Prelude.{[], List, ℕ, codes, bytes_eq, false, ◌≡◌, ◌∷◌};
+ghost use Rattle.std.specs.Prelude.{[], List, false, ◌≡◌, ◌∷◌};
 ghost use Rattle.wesl_text_form.specs.Operators.{is_place_operator};
-ghost use Rattle.wesl_text_form.specs.Spelling.{begins_enclosed, ends_open, is_wildcard, leads_to_place};
-ghost use Rattle.wesl_text_print_statements.specs.Targets.{are_apart_in, is_target_in, plain_attribute, spelled_attributes, spelled_in, spelled_type};
+ghost use Rattle.wesl_text_form.specs.Spelling.{begins_enclosed, ends_open, leads_to_place};
+ghost use Rattle.wesl_text_operands.specs.Targets.{are_apart_in, is_target_in, plain_attribute, spelled_attributes, spelled_in};
 ghost use Rattle.wesl_tree_names.specs.Path.{Text};
-ghost use Rattle.wesl_tree_syntax.specs.Tree.{at, expression_node};
-ghost use Rattle.wesl_tree_syntax.specs.Unit.{name_in};
 
-use wesl_text_print::{is_tight, spelling};
-use wesl_tree_names::{Ident, Names};
-use wesl_tree_syntax::{Attribute, Attributes, Expression, TypeExpression, UnaryOperator};
+use crate::class::{class_of, is_tight};
+use wesl_tree_syntax::{Attribute, Attributes, Expression, UnaryOperator};
 
 /// Whether an expression may be assigned to, whatever the names of its identifiers.
-pub(crate) fn is_target(expression: &Expression) -> bool
+pub fn is_target(expression: &Expression) -> bool
     ensures { (names : List Text) → result ≡ is_target_in names expression.now }
 {
-    is_tight(expression) && leads_to_place(expression)
+    is_tight(class_of(expression)) && leads_to_place(expression)
 }
 
 // Whether an expression leads to a place: a name, or `*`, `&`, `.`, `[..]` and parentheses round what does.
@@ -109,51 +106,8 @@ fn is_open(attribute: &Attribute) -> bool
 }
 
 /// Whether the attributes of a statement end where its first expression begins, whatever the names of identifiers.
-pub(crate) fn are_apart(attributes: &Attributes, expression: &Expression) -> bool
+pub fn are_apart(attributes: &Attributes, expression: &Expression) -> bool
     ensures { (names : List Text) → result ≡ are_apart_in names attributes.now expression.now }
 {
     !(ends_open(attributes) && begins_enclosed(expression))
-}
-
-/// Whether an expression is `_`.
-pub(crate) fn is_wildcard(names: &Names, expression: &Expression) -> bool
-    ensures { result ≡ is_wildcard (at expression_node 0 0) (spelled_in names.now expression.now) }
-{
-    match expression {
-        Expression::Literal(_literal) => false,
-        Expression::Parenthesized { expression: _inner } => false,
-        Expression::NamedComponent {
-            base: _base,
-            component: _component,
-        } => false,
-        Expression::Indexing {
-            base: _base,
-            index: _index,
-        } => false,
-        Expression::Unary {
-            operator: _operator,
-            operand: _operand,
-        } => false,
-        Expression::Binary {
-            operator: _operator,
-            left: _left,
-            right: _right,
-        } => false,
-        Expression::FunctionCall(_call) => false,
-        Expression::TypeOrIdentifier(ty) => is_plain_underscore(names, ty),
-    }
-}
-
-// Whether a type is `_` without a path and without arguments.
-fn is_plain_underscore(names: &Names, ty: &TypeExpression) -> bool
-    ensures { result ≡ is_wildcard (at expression_node 0 0) (spelled_type names.now ty.now) }
-{
-    ty.path.is_none() && ty.template_args.is_none() && is_underscore(names, ty.ident)
-}
-
-// Whether the name of an identifier is `_`.
-fn is_underscore(names: &Names, ident: Ident) -> bool
-    ensures { result ≡ bytes_eq (name_in names.now ident.0) (codes "_") }
-{
-    spelling(names, ident) == "_"
 }

@@ -1,7 +1,7 @@
 use Rattle.std.proofs.Common.{◌≡◌, ◌-◌, Some, length, rules, ◌∙◌}
 use Rattle.std.specs.List.{slice_get}
-use Rattle.wesl_text_print_statements.proofs.Targets.{ends_with}
-use Rattle.wesl_text_print_statements.proofs.target.ends_open.Goals as goal
+use Rattle.wesl_text_operands.proofs.Targets.{ends_with}
+use Rattle.wesl_text_operands.proofs.target.ends_open.Goals as goal
 
 pub returns-in-Some : goal.returns-in-Some
 returns-in-Some c names =

@@ -2,23 +2,18 @@
 use Rattle.std.specs.Prelude.{Bool, not, ◌&&◌, List, [], ◌∷◌, map, Vec}
 use Rattle.std.specs.declared.alloc.Global.{Global}
 use Rattle.wesl_tree_names.specs.Path.{Text}
-use Rattle.wesl_tree_syntax.specs.Tree.{attribute_node, branch, forest_of, respell_forest, type_or_identifier}
+use Rattle.wesl_tree_syntax.specs.Tree.{attribute_node, forest_of, respell_forest}
 use Rattle.wesl_tree_syntax.specs.Unit.{name_in}
-use Rattle.wesl_tree_syntax.specs.View.{attribute_view, expression_view, placed, type_view}
+use Rattle.wesl_tree_syntax.specs.View.{attribute_view, expression_view, placed}
 use Rattle.wesl_tree_syntax.specs.declared.span.Spanned.{Spanned}
 use Rattle.wesl_tree_syntax.specs.declared.attribute.Attribute.{Attribute}
 use Rattle.wesl_tree_syntax.specs.declared.expression.Expression.{Expression}
-use Rattle.wesl_tree_syntax.specs.declared.expression.TypeExpression.{TypeExpression}
 use Rattle.wesl_text_form.specs.Operators.{class_of, is_tight}
 use Rattle.wesl_text_form.specs.Spelling.{Forest, begins_enclosed, ends_open, label_at, leads_to_place}
 
 -- what stands below the node of an expression, where each identifier is its name
 abbrev pub spelled_in : List Text → Expression → Forest
 spelled_in names x = respell_forest (name_in names) (forest_of (expression_view x ∷ []))
-
--- the same of an expression that is a type
-abbrev pub spelled_type : List Text → TypeExpression → Forest
-spelled_type names t = respell_forest (name_in names) (forest_of (branch type_or_identifier (type_view t ∷ []) ∷ []))
 
 -- attributes, where each identifier is its name
 abbrev pub spelled_attributes : List Text → List (Spanned Attribute) → Forest

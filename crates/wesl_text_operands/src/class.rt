@@ -1,8 +1,8 @@
 //! How tightly expressions hold together (WGSL, "Expression Grammar Summary").
 ghost use Rattle.std.specs.Prelude.{◌≡◌, Some};
-ghost use Rattle.wesl_text_form.specs.Operators.{class_of as spelled_class, is_compared as compared, is_tight as tight, operator_class as class_of_operator, takes_left as left_taken, takes_right as right_taken};
+ghost use Rattle.wesl_text_form.specs.Operators.{class_of as spelled_class, is_compared as compared, is_tight as tight, operator_class as class_of_operator, primary, same_class, takes_left as left_taken, takes_right as right_taken};
 ghost use Rattle.wesl_tree_syntax.specs.View.{expression_view};
-ghost use Rattle.wesl_text_read.specs.Classes.{allows, class_view};
+ghost use Rattle.wesl_text_operands.specs.Classes.{class_view};
 
 use wesl_tree_syntax::{BinaryOperator, Expression};
 
@@ -31,17 +31,6 @@ pub enum Class {
     Both,
     /// `||`
     Either,
-}
-
-/// Which expressions may stand at a place.
-#[derive(Clone, Copy, Drop)]
-pub enum Within {
-    /// any
-    Anything,
-    /// what a unary operator takes
-    Prefix,
-    /// what this operator takes on its right
-    Right(BinaryOperator),
 }
 
 /// The class of an operation.
@@ -80,6 +69,16 @@ pub fn class_of(expression: &Expression) -> Class
         Expression::Indexing { .. } => Class::Primary,
         Expression::FunctionCall(_) => Class::Primary,
         Expression::TypeOrIdentifier(_) => Class::Primary,
+    }
+}
+
+/// Whether it stands for itself.
+pub fn is_primary(class: Class) -> bool
+    ensures { result ≡ same_class primary (class_view class) }
+{
+    match class {
+        Class::Primary => true,
+        _ => false,
     }
 }
 
@@ -131,18 +130,5 @@ pub fn takes_right(operation: Class, operand: Class) -> bool
         (Class::Both | Class::Either, Class::Comparison) => true,
         (Class::Both | Class::Either, operand) => is_compared(operand),
         (_, operand) => is_tight(operand),
-    }
-}
-
-impl Within {
-    /// Whether an expression of a class may stand here.
-    pub fn allows(self, class: Class) -> bool
-        ensures { result ≡ allows self (class_view class) }
-    {
-        match self {
-            Within::Anything => true,
-            Within::Prefix => is_tight(class),
-            Within::Right(operator) => takes_right(operator_class(operator), class),
-        }
     }
 }

@@ -7,7 +7,7 @@ use Rattle.wesl_tree_syntax.specs.declared.span.Spanned.{Spanned}
 use Rattle.wesl_tree_syntax.specs.declared.attribute.Attribute.{Attribute}
 use Rattle.wesl_tree_syntax.specs.declared.attribute.Attribute.TheVariants as attr
 use Rattle.wesl_text_form.specs.Spelling.{ends_open}
-use Rattle.wesl_text_print_statements.specs.Targets.{plain_attribute, spelled_attributes}
+use Rattle.wesl_text_operands.specs.Targets.{plain_attribute, spelled_attributes}
 
 module _ (names : List Text) where
   skipped : (y : Attribute) (z : Spanned Attribute) (zs : List (Spanned Attribute)) → ends_open (spelled_attributes names (z ∷ zs)) ≡ ends_open (spelled_attributes names (plain_attribute y ∷ z ∷ zs))
