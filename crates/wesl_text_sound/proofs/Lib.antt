@@ -1,0 +1,15 @@
+pub mod TakenApart
+pub mod EachToken
+pub mod TokensHold
+pub mod Signless
+pub mod Words
+pub mod Alone
+pub mod TokensAre
+pub mod LeavesSaid
+pub mod PathsSaid
+pub mod ListsSaid
+pub mod RowsSaid
+pub mod NodesSaid
+pub mod ExpressionsSaid
+pub mod Said
+pub mod Texts
