@@ -1,0 +1,9 @@
+pub mod Parted
+pub mod Ended
+pub mod Nodes
+pub mod Memory
+pub mod Calls
+pub mod FirstParts
+pub mod Parts
+pub mod Wholes
+pub mod Views
