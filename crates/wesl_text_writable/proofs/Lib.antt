@@ -1,0 +1,4 @@
+pub mod Clear
+pub mod HardTrees
+pub mod ClearTrees
+pub mod Fewest
