@@ -1,0 +1,5 @@
+pub mod Slashes
+pub mod Parts
+pub mod Closed
+pub mod Directives
+pub mod Imports

@@ -1,0 +1,4 @@
+pub mod Slashes
+pub mod Closed
+pub mod Nodes
+pub mod Directives
