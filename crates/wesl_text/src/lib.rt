@@ -1,0 +1,13 @@
+//! Shader text: units read from it, and printed as it.
+#![tactic(auto)]
+
+mod fault;
+mod printing;
+mod reading;
+mod text;
+
+pub use fault::TextFault;
+pub use printing::print_unit;
+pub use reading::read_unit;
+pub use text::WeslText;
+pub use wesl_text_read_unit::MOST_LEVELS;

@@ -1,0 +1,4 @@
+pub mod Finishing
+pub mod Laying
+pub mod Marks
+pub mod Spelled

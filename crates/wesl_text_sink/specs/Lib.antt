@@ -1,0 +1,5 @@
+pub mod Filling
+pub mod Finished
+pub mod Layout
+pub mod Touching
+pub mod Words

@@ -1,0 +1,22 @@
+-- What is found out of a text that is to be a word, a name or a number.
+use Rattle.std.specs.Prelude.{◌≡◌, Bool, true, false, Option, Some, None, Result, Ok, Err}
+use Rattle.wesl_text_sink.specs.declared.fault.PrintFault.{PrintFault}
+use Rattle.wesl_text_sink.specs.declared.fault.PrintFault.TheVariants as told
+
+-- whether a fault says nothing of what is printed: memory, or the length of a text
+abbrev pub is_limit : PrintFault → Bool
+is_limit told.Memory = true
+is_limit told.TooLong = true
+is_limit _ = false
+
+-- whether a fault is noted that says that what is printed has no text
+abbrev pub is_refusal : Option PrintFault → Bool
+is_refusal None = false
+is_refusal (Some told.Memory) = false
+is_refusal (Some told.TooLong) = false
+is_refusal (Some _) = true
+
+-- an answer, unless a limit was met
+abbrev pub Tells : Result Bool PrintFault → Bool → Type 0
+Tells (Ok a) b = a ≡ b
+Tells (Err e) b = is_limit e ≡ true
