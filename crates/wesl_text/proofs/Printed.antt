@@ -1,5 +1,5 @@
 -- What a finished sink tells of the unit that was printed into it.
-use Rattle.std.proofs.Common.{◌≡◌, ◌⊎◌, Bool, Err, List, None, Ok, Option, Result, Some, [], ap, false, inl, inr, refl, subst, sym as turned, true, ◌++◌, ◌∙◌}
+use Rattle.std.proofs.Common.{◌≡◌, Bool, Err, List, None, Ok, Option, Result, Some, [], ap, false, inl, inr, refl, subst, sym as turned, true, ◌∙◌}
 use Rattle.std.specs.Global.{Global}
 use Rattle.std.specs.Prelude.{IfErr, IfOk, String, string_bytes}
 use Rattle.wesl_tree_names.specs.Path.{Text}

@@ -1,5 +1,5 @@
 -- Why a unit is not printed.
-use Rattle.std.specs.Prelude.{◌≡◌, ◌⊎◌, true, None, Some}
+use Rattle.std.specs.Prelude.{◌≡◌, ◌⊎◌, true, None}
 use Rattle.std.proofs.Common.{inl, inr, sym as turned, ◌∙◌}
 use Rattle.wesl_text_reading.proofs.Promises.{text_says_one_unit}
 use Rattle.wesl_text_tokens.specs.Tokens.{tokens}

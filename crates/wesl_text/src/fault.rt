@@ -58,7 +58,9 @@ impl<'t> fmt::Display for TextFault<'t> {
         match self {
             TextFault::NoToken(fault) => fmt::Display::fmt(fault, f),
             TextFault::Unexpected {
-                expected, found, ..
+                expected,
+                found,
+                ..
             } => {
                 write!(f, "expected ")?;
                 write_expected(f, *expected)?;

@@ -49,7 +49,9 @@ fn text_fault<'t>(fault: Fault<'_>, tokens: &[PlacedToken<'t>]) -> TextFault<'t>
     match fault {
         Fault::Memory => TextFault::Memory,
         Fault::Text {
-            place, expected, ..
+            place,
+            expected,
+            ..
         } => TextFault::Unexpected {
             place,
             expected,

@@ -4,9 +4,8 @@ use mathlib.Core.List.{map-map}
 use Rattle.wesl_tree_names.specs.Path.{Text}
 use Rattle.wesl_tree_syntax.specs.Tree.{Tree, TreeOf, absent, before, binder, branch, end, ident, import_collection, import_entry, import_item, kind, leaf as tree_leaf, list, present, respell, texts, word}
 use Rattle.wesl_tree_syntax.specs.Unit.{name_in}
-use Rattle.wesl_tree_syntax.specs.View.{content_view, entry_view, item_view, listed, names_tree}
-use Rattle.wesl_tree_syntax.specs.declared.import.ImportContent.{ImportContent, the_lemmas, Item, Collection}
-use Rattle.wesl_tree_syntax.specs.declared.import.ImportItem.{ImportItem}
+use Rattle.wesl_tree_syntax.specs.View.{content_view, entry_view, listed, names_tree}
+use Rattle.wesl_tree_syntax.specs.declared.import.ImportContent.{ImportContent, the_lemmas, Collection}
 use Rattle.wesl_tree_syntax.specs.declared.import.Import.{Import, roll-Import}
 use Rattle.wesl_text_tokens.specs.declared.symbol.Symbol.TheVariants as is
 use Rattle.wesl_text_tokens.specs.Tokens.{Token, name, symbol}
@@ -28,9 +27,6 @@ use Rattle.wesl_text_read_imports.proofs.Closed.{Closes}
 use Rattle.wesl_text_read_imports.proofs.Parts.{RowReads, node_reads, reads_end, reads_leaf, reads_own, reads_says}
 
 -- ---- trees
-
-pub view-item : (i : ImportItem) → content_view (Item i) ≡ item_view i
-view-item i = search (rules, the_lemmas)
 
 pub view-collection : (v : Vec Import Global) → content_view (Collection v) ≡ branch import_collection (listed entry_view list v ∷ [])
 view-collection v = search (rules, the_lemmas, map-map)

@@ -15,7 +15,7 @@ use Rattle.wesl_text_reading.specs.Leaves.{Read, after, are_free, free_path, pat
 use Rattle.wesl_text_read.specs.declared.reader.Reader.{Reader}
 use Rattle.wesl_text_read.specs.First.{read_steps, word_first}
 use Rattle.wesl_text_read.specs.Leads.{Keeps, Leads, Makes, ReadsLabel, ReadsText, ReadsTexts, Refuses, Skips, ahead}
-use Rattle.wesl_text_read.proofs.Leading.{cleared, keeping, next, nothing_there, once_clear, seen, stay, under}
+use Rattle.wesl_text_read.proofs.Leading.{cleared, keeping, next, nothing_there, once_clear, seen, under}
 use Rattle.wesl_text_read.proofs.Paths.{sign-is}
 use Rattle.wesl_text_read_imports.specs.Slashes.{begins_keyword_path, read_behind_package, read_package, read_package_name, slash_first}
 
@@ -56,10 +56,6 @@ word-slashed : (t : Text) (ts : List Token) → word_first ts ≡ Some t → sla
 word-slashed t (name u ∷ ts) h = let same : u ≡ t = cc in ap (λ z. slashed_behind z ts) same
 word-slashed t ts h = cc
 
-no-word-slashed : (ts : List Token) → word_first ts ≡ None → slashed ts ≡ ([], ts)
-no-word-slashed (name u ∷ ts) h = cc
-no-word-slashed ts h = refl
-
 -- ---- readers of names
 
 -- the name of a package was read so far
@@ -71,9 +67,6 @@ name_begins {s} {m} {e} t x h skip makes =
     let F : List Text → Option (List Token) → Read Text = λ ns o. option_and_then (λ us. Some (slashed_behind t us)) o in
     let G : List Text → Read Text → Read Text = λ ns r. after r (λ y us. Some (slashed_behind y us)) in
     seen (λ ns. ap (λ (x : Text × List Token). Some x) (word-slashed t (ahead s) h)) (λ ns. refl) (next (under F (λ ns. refl) skip) (under G (λ ns. refl) makes))
-
-pub no_name_begins : {s : Reader} → word_first (ahead s) ≡ None → ReadsText (λ ts. Some (slashed ts)) [] s s
-no_name_begins {s} h = seen (λ ns. ap (λ (x : Text × List Token). Some x) (no-word-slashed (ahead s) h)) (λ ns. refl) stay
 
 pub name_more : {s m n k e : Reader} (t u x : Text) → slash_first (ahead m) ≡ Some u → Slashed t s m → (n.fault ≡ None → x ≡ t ++ slash ∷ u) → Keeps m n
     → Skips (λ ts. Some (behind_first ts)) n k → Skips (λ ts. Some (behind_first ts)) k e → Slashed x s e

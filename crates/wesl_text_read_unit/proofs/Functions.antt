@@ -15,7 +15,7 @@ use Rattle.wesl_text_read.specs.declared.reader.Reader.{Reader}
 use Rattle.wesl_text_read.specs.Leads.{Reads, Skips, ahead}
 use Rattle.wesl_text_read.specs.Levels.{inner}
 use Rattle.wesl_text_read.specs.Parts.{row_at}
-use Rattle.wesl_text_read.proofs.Leading.{next, seen, stay, under}
+use Rattle.wesl_text_read.proofs.Leading.{next, seen, under}
 use Rattle.wesl_text_read.proofs.Rows.{row_inside}
 use Rattle.wesl_text_read_imports.proofs.Parts.{RowReads, with_levels}
 use Rattle.wesl_text_read_unit.specs.Results.{ReadsPair, result_at, result_row}
@@ -132,9 +132,6 @@ module _ (n : ℕ) where
 
 pub reads_inside : {s m e : Reader} (k : Kind) (ins row : Row) (f g : NumberForest) → RowReads ins f s m → RowReads row g m e → RowReads (inside k ins row) (before (record { label = kind k; children = f }) g) s e
 reads_inside {s} {m} {e} k ins row f g p q = row_inside s.levels k ins row f g p (with_levels s.levels row g p.levels q)
-
-pub no_result : {s : Reader} → begins_sign is.Arrow (ahead s) ≡ false → ReadsPair result_at (branch attributes []) (branch absent []) s s
-no_result {s} h = seen (λ ns. ap (λ (b : Bool). elim b as (λ _. Read Forest) [ false ↦ Some (before (branch attributes []) (before (branch absent []) end), ahead s) | true ↦ row_at s.levels result_row (behind_first (ahead s)) ]) h) (λ ns. refl) stay
 
 pub result_read : {s m e : Reader} (t u : Tree) → begins_sign is.Arrow (ahead s) ≡ true → Skips (λ ts. Some (behind_first ts)) s m → RowReads result_row (before t (before u end)) m e → ReadsPair result_at t u s e
 result_read {s} {m} {e} t u h skip row =

@@ -12,7 +12,7 @@ use Rattle.wesl_text_reading.specs.Reading.{any, at_level, behind_attributes, ra
 use Rattle.wesl_text_read.specs.declared.reader.Reader.{Reader}
 use Rattle.wesl_text_read.specs.Leads.{Leads, Reads, Refuses, ahead}
 use Rattle.wesl_text_read.specs.Levels.{inner}
-use Rattle.wesl_text_read.proofs.Leading.{next, nothing_there, seen}
+use Rattle.wesl_text_read.proofs.Leading.{next, nothing_there, seen, under}
 use Rattle.wesl_text_read_ahead.specs.Ahead.{LooksBehind}
 use Rattle.wesl_text_read_ahead.proofs.Behind.{declaration-unread, in_fault, look, looked}
 use Rattle.wesl_text_read_imports.specs.Nodes.{kind_at}
@@ -57,8 +57,10 @@ module _ {s m : Reader} (behind : List Token) (looks : LooksBehind behind s m) w
       next looked-behind
       (in_fault read (λ clear. seen (λ ns. declaration-known m.levels (ahead m) d (sym (label-known (Some (start_label d)) told clear))) (λ ns. refl) read))
 
-  pub no_declaration_there : {e : Reader} (t : Tree) → None ≡ declaration_label behind → Refuses m e → Reads (inner s.levels a_bare_declaration) t s e
-  no_declaration_there {e} t told wrong =
-      let none : Leads (λ ns. let r : Read (TreeOf Text) = None in r) (λ ns. let r : Read (TreeOf Text) = Some (respell (name_in ns) t, ahead e) in r) m e = nothing_there wrong (λ ns. refl) in
+  -- where none begins, a fault is noted behind the attributes
+  pub no_declaration_there : {a e : Reader} {f g : List Text → Read (TreeOf Text)} (t : Tree) → None ≡ declaration_label behind → Leads f g m a → Refuses a e → Reads (inner s.levels a_bare_declaration) t s e
+  no_declaration_there {a} {e} {f} {g} t told attributes wrong =
+      let F : List Text → Read (TreeOf Text) → Read (TreeOf Text) = λ ns r. None in
+      let none : Leads (λ ns. F ns (f ns)) (λ ns. let r : Read (TreeOf Text) = Some (respell (name_in ns) t, ahead e) in r) m e = next (under F (λ ns. refl) attributes) (nothing_there wrong (λ ns. refl)) in
       next looked-behind
       (in_fault none (λ clear. seen (λ ns. declaration-none m.levels (ahead m) (sym (label-known None told clear))) (λ ns. refl) none))

@@ -41,6 +41,7 @@ fn bare_declaration(reader: &mut Reader<'_>) -> GlobalDeclaration
         Some(DeclarationStart::Struct) => GlobalDeclaration::Struct(structure(reader)),
         Some(DeclarationStart::Function) => GlobalDeclaration::Function(function(reader)),
         None => {
+            let _attributes = reader.attributes();
             reader.wrong(Expected::Declaration);
             GlobalDeclaration::Void
         }

@@ -7,7 +7,6 @@ use Rattle.wesl_text_tokens.specs.Views.{token_of}
 use Rattle.wesl_text_tokens.specs.declared.token.PlacedToken.{PlacedToken}
 use Rattle.wesl_text_read.specs.Leads.{is_memory}
 use Rattle.wesl_text.specs.Said.{IsFaultOf, SaysNone}
-use Rattle.wesl_text.specs.declared.fault.TextFault.TheVariants as faults
 use Rattle.wesl_text.proofs.Faults.{of_grammar}
 use Rattle.wesl_text.proofs.Spelled.{tokens_read}
 use Rattle.wesl_text.proofs.reading.read_unit.Goals as goal

@@ -1,4 +1,4 @@
-use Rattle.std.proofs.Common.{◌≡◌, Err, None, Ok, Option, Result, ap, codes, refl, ◌∙◌}
+use Rattle.std.proofs.Common.{◌≡◌, Err, None, Ok, Result, ap, codes, refl, ◌∙◌}
 use Rattle.std.specs.Global.{Global}
 use Rattle.std.specs.declared.alloc.AllocError.{AllocError}
 use Rattle.std.specs.Prelude.{IfOk, String, string_bytes}

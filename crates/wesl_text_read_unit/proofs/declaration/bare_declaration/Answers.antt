@@ -31,4 +31,4 @@ pub returns-in-Some-Function : goal.returns-in-Some-Function
 returns-in-Some-Function c = kind_there _ c.behind_attributes.ensures starts.Function (function_view c.function.result) (search rules) c.function.ensures
 
 pub returns-in-None : goal.returns-in-None
-returns-in-None c = no_declaration_there _ c.behind_attributes.ensures (global_view globals.Void) (search rules) c.wrong.ensures
+returns-in-None c = no_declaration_there _ c.behind_attributes.ensures (global_view globals.Void) (search rules) c.attributes-attributes.ensures c.wrong.ensures
