@@ -1,25 +1,19 @@
--- Why a unit is not printed.
-use Rattle.std.specs.Prelude.{◌≡◌, ◌⊎◌, true, None}
-use Rattle.std.proofs.Common.{inl, inr, sym as turned, ◌∙◌}
-use Rattle.wesl_text_reading.proofs.Promises.{text_says_one_unit}
-use Rattle.wesl_text_tokens.specs.Tokens.{tokens}
-use Rattle.wesl_text_form.specs.Says.{TextSays}
+-- As which text a unit is printed, whether a text says it or not.
+use Rattle.std.specs.Prelude.{◌≡◌, true, false, None}
+use Rattle.std.proofs.Common.{Bool, refl, sym as turned, ◌∙◌}
 use Rattle.wesl_tree_names.specs.Path.{Text}
 use Rattle.wesl_tree_syntax.specs.Unit.{UnitOf}
-use Rattle.wesl_text_form.specs.Spelling.{slots}
-use Rattle.wesl_text_sink.specs.Words.{is_limit}
-use Rattle.wesl_text_sink.specs.declared.fault.PrintFault.{PrintFault}
-use Rattle.wesl_text_sink.specs.declared.fault.PrintFault.TheVariants as told
+use Rattle.wesl_text_tokens.specs.Tokens.{tokens}
+use Rattle.wesl_text_form.specs.Says.{IsWritable, TextSays}
+use Rattle.wesl_text_reading.proofs.Promises.{text_says_one_unit}
 
--- why a unit is not printed: for want of memory or of room, because the text would be read otherwise, or since no text says it
-abbrev pub IsUnprinted : UnitOf Text → PrintFault → Type 0
-IsUnprinted u e = (is_limit e ≡ true) ⊎ (e ≡ told.NotAsMeant) ⊎ (slots u ≡ None)
-
--- a text as which a unit is printed: it says the unit, or it has no tokens
+-- the text says the unit, where one does; else it has no tokens
 abbrev pub PrintsAs : UnitOf Text → Text → Type 0
-PrintsAs u t = TextSays t u ⊎ (tokens t ≡ None)
+PrintsAs u t = (IsWritable u ≡ true → TextSays t u) × (IsWritable u ≡ false → tokens t ≡ None)
 
 -- what was printed says no other unit
 pub said_again : (u v : UnitOf Text) (t : Text) → PrintsAs u t → TextSays t v → v ≡ u
-said_again u v t (inl says) read = text_says_one_unit t v u read says
-said_again u v t (inr none) read = let z : ⊥ = Prim.cc (turned none ∙ read.1) in absurd z
+said_again u v t printed read = by (IsWritable u) refl where
+  by : (b : Bool) → IsWritable u ≡ b → v ≡ u
+  by true e = text_says_one_unit t v u read (printed.0 e)
+  by false e = let z : ⊥ = Prim.cc (turned (printed.1 e) ∙ read.1) in absurd z

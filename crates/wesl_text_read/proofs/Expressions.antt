@@ -1,5 +1,5 @@
 -- Expressions, one part after another.
-use Rattle.std.proofs.Common.{◌≡◌, ◌≤◌, ◌⊎◌, ◌||◌, ◌-◌, ◌++◌, inl, inr, ℕ, zero, suc, List, [], ◌∷◌, Bool, true, false, Option, Some, None, String, Global, string_bytes, bytes_eq, codes, if◌then◌else◌, refl, sym, ap, ◌∙◌, subst, arith}
+use Rattle.std.proofs.Common.{◌≡◌, ◌≤◌, ◌⊎◌, ◌||◌, ◌-◌, ◌++◌, inl, inr, ℕ, zero, suc, List, [], ◌∷◌, Bool, true, false, Option, Some, None, String, Global, string_bytes, bytes_eq, codes, if◌then◌else◌, nat_le, not, refl, sym, ap, ◌∙◌, subst, arith}
 use Rattle.std.specs.Option.{option_and_then, is_some}
 use Rattle.std.specs.Box.{box_value}
 use Rattle.std.specs.Global.{Box}
@@ -16,18 +16,21 @@ use Rattle.wesl_tree_syntax.specs.declared.span.Spanned.{Spanned}
 use Rattle.wesl_text_tokens.specs.declared.symbol.Symbol.{Symbol}
 use Rattle.wesl_text_tokens.specs.declared.symbol.Symbol.TheVariants as is
 use Rattle.wesl_text_tokens.specs.Tokens.{Token, name, number, symbol, open_list, close_list}
+use Rattle.wesl_text_form.specs.Says.{levels}
 use Rattle.wesl_text_form.specs.Slots.{behind_token, comes_first}
 use Rattle.wesl_text_form.specs.Operators.{Class, is_tight, operator_class, takes_right}
 use Rattle.wesl_text_form.specs.Spelling.{Label as SpelledLabel}
 use Rattle.wesl_text_form.specs.Productions.{a_bare_expression, a_call, a_name, a_path, a_type, an_argument, an_expression, an_ident, leaf as leaf_row, nothing}
 use Rattle.wesl_text_reading.specs.FirstTokens.{begins_expression, begins_sign, behind_first, unary_first}
-use Rattle.wesl_text_reading.specs.Leaves.{Read, after, read_leaf}
-use Rattle.wesl_text_reading.specs.Reading.{any, at_level, begins_post, expression, node, node_of, ranked}
+use Rattle.wesl_text_reading.specs.Leaves.{Read, after, read_leaf, where_so}
+use Rattle.wesl_text_reading.specs.Reading.{any, at_level, begins_post, expression, node, node_of, ranked, within_levels}
 use Rattle.wesl_text_read.specs.declared.reader.Reader.{Reader}
 use Rattle.wesl_text_read.specs.First.{next_expression, number_first, truth_first, word_first}
+use Rattle.wesl_text_read.specs.Depth.{levels_in}
 use Rattle.wesl_text_read.specs.Leads.{Builds, Keeps, Leads, Makes, Reads, ReadsLabel, Refuses, Skips, Stops, ahead}
 use Rattle.wesl_text_read.specs.Levels.{bare_at, component_of, deeper, enclosed_at, indexing_at, inner, operand_at, operation_at, operations_at, post_at, posts_at, prefixed_at}
 use Rattle.wesl_text_read.specs.Parts.{ReadsRow, commas_at, list_at, may_at, row_at, template_at}
+use Rattle.wesl_text_read.proofs.Deep.{levels_spelled}
 use Rattle.wesl_text_read.proofs.Leading.{built, next, nothing_there, seen, stay, under}
 use Rattle.wesl_text_read.proofs.Levels.{after-one, bare-operand, one-level, prefixed-operand, then-one}
 use Rattle.wesl_text_read.proofs.Paths.{sign-is}
@@ -101,14 +104,32 @@ operand_bare {s} {m} {e} bare_node bare made h read same posts =
 
 -- ---- whole expressions
 
+-- a whole expression is read but for the test of its levels
+abbrev pub Untested : ℕ → (Class → Bool) → Tree → Reader → Reader → Type 0
+Untested l p t s e = Leads (λ ns. at_level l p an_expression (ahead s)) (λ ns. within_levels l (Some (respell (name_in ns) t, ahead e))) s e
+
 pub whole_read : {s m e : Reader} (l : ℕ) (p : Class → Bool) (first made : Spanned Expression) → l ≡ suc s.levels
     → Reads (operand_at s.levels) (expression_tree first) s m
     → Leads (λ ns. operations_at m.levels p m.levels (respell (name_in ns) (expression_tree first)) (ahead m)) (λ ns. Some (respell (name_in ns) (expression_tree made), ahead e)) m e
-    → Reads (at_level l p an_expression) (expression_tree made) s e
+    → Untested l p (expression_tree made) s e
 whole_read {s} {m} {e} l p first made same read operations =
     let here = subst (λ (n : ℕ). Leads (λ ns. operations_at n p n (respell (name_in ns) (expression_tree first)) (ahead m)) (λ ns. Some (respell (name_in ns) (expression_tree made), ahead e)) m e) read.levels operations in
     seen (λ ns. one-level l s.levels p (ahead s) same) (λ ns. refl)
-    (next (under (λ ns (r : Read (TreeOf Text)). after r (λ t us. operations_at s.levels p s.levels t us)) (λ ns. refl) read) here)
+    (under (λ ns (r : Read (TreeOf Text)). within_levels l r) (λ ns. refl)
+    (next (under (λ ns (r : Read (TreeOf Text)). after r (λ t us. operations_at s.levels p s.levels t us)) (λ ns. refl) read) here))
+
+-- and is noted as a fault where it has more levels
+pub tested_read : {s m e : Reader} (l : ℕ) (p : Class → Bool) (t : Tree) (fits : Bool) → fits ≡ nat_le (levels_in t) l → Untested l p t s m → (not fits ≡ true → Refuses m e) → (not fits ≡ false → e ≡ m) → Reads (at_level l p an_expression) t s e
+tested_read {s} {m} {e} l p t fits is untested refuses same = by fits refl where
+  test_is : (ns : List Text) → nat_le (levels (before (respell (name_in ns) t) end)) l ≡ fits
+  test_is ns = ap (λ z. nat_le z l) (levels_spelled (name_in ns) (λ _. []) (before t end)) ∙ sym is
+
+  tested : (b : Bool) → fits ≡ b → (ns : List Text) → within_levels l (Some (respell (name_in ns) t, ahead m)) ≡ where_so b (respell (name_in ns) t) (ahead m)
+  tested b h ns = ap (λ z. where_so z (respell (name_in ns) t) (ahead m)) (test_is ns ∙ h)
+
+  by : (b : Bool) → fits ≡ b → Reads (at_level l p an_expression) t s e
+  by false h = next untested (nothing_there (refuses (ap not h)) (tested false h))
+  by true h = subst (λ z. Reads (at_level l p an_expression) t s z) (sym (same (ap not h))) (seen (λ ns. refl) (tested true h) untested)
 
 -- ---- `.` and `[..]`
 

@@ -12,7 +12,7 @@ use Rattle.wesl_text_form.specs.Productions.{a_name, an_expression}
 use Rattle.wesl_text_form.specs.Slots.{behind_token}
 use Rattle.wesl_text_reading.specs.FirstTokens.{behind_first, unary_first}
 use Rattle.wesl_text_reading.specs.Leaves.{Read, after, read_leaf}
-use Rattle.wesl_text_reading.specs.Reading.{any, at_level, begins_post, class_in, expression, next_operator, node_of}
+use Rattle.wesl_text_reading.specs.Reading.{any, at_level, begins_post, class_in, expression, next_operator, node_of, within_levels}
 use Rattle.wesl_text_read.specs.Levels.{bare_at, deeper, operand_at, operation_at, operations_at, post_at, posts_at, prefixed_at}
 
 pub after-one : {A B C : Type 0} (r : Read A) (f : A → B) (k : B → List Token → Read C) → after r (λ x us. k (f x) us) ≡ after (after r (λ x us. Some (f x, us))) k
@@ -29,7 +29,7 @@ after-index (Some x) f g k = then-one (g x.1) (f x.0) k
 
 -- ---- levels
 
-pub one-level : (l n : ℕ) (p : Class → Bool) (ts : List Token) → l ≡ suc n → at_level l p an_expression ts ≡ after (operand_at n ts) (λ e us. operations_at n p n e us)
+pub one-level : (l n : ℕ) (p : Class → Bool) (ts : List Token) → l ≡ suc n → at_level l p an_expression ts ≡ within_levels l (after (operand_at n ts) (λ e us. operations_at n p n e us))
 one-level l n p ts is = rw is refl
 
 -- ---- operations

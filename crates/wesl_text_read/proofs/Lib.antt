@@ -1,8 +1,8 @@
 pub mod Leading
 pub mod First
-pub mod Among
 pub mod Naming
 pub mod Levels
+pub mod Deep
 pub mod Chains
 pub mod Paths
 pub mod After
@@ -13,3 +13,4 @@ pub mod Trees
 pub mod Expressions
 pub mod WordLists
 pub mod Attributes
+pub mod TakenWords

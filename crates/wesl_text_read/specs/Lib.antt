@@ -2,6 +2,8 @@ pub mod Leads
 pub mod Within
 pub mod First
 pub mod Levels
+pub mod Depth
 pub mod Parts
 pub mod AttributeWords
 pub mod Attributes
+pub mod TakenWords

@@ -12,6 +12,7 @@ ghost use Rattle.wesl_text_read.specs.Leads.{Builds, Reads, ReadsOn, ahead, node
 ghost use Rattle.wesl_text_read.specs.Levels.{bare_at, component_of, enclosed_at, indexing_at, inner, operand_at, operation_at, operations_at, post_at, posts_at, prefixed_at};
 ghost use Rattle.wesl_text_read.specs.Parts.{ReadsRow, commas_at, list_at, template_at};
 
+use crate::depth::levels_are_within;
 use crate::reader::{Expected, Reader};
 use crate::within::Within;
 use wesl_text_operands::class_of;
@@ -41,6 +42,8 @@ impl<'t> Reader<'t> {
         let first = self.operand();
         let whole = self.operations(within, first);
         self.levels += 1;
+        let fits = levels_are_within(&whole, self.levels);
+        self.wrong_if(!fits, Expected::FewerLevels);
         whole
     }
 

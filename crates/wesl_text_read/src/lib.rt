@@ -4,6 +4,7 @@
 mod attribute;
 mod attribute_word;
 mod chain;
+mod depth;
 mod expression;
 mod leaves;
 mod list;

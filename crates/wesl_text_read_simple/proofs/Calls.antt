@@ -17,6 +17,7 @@ use Rattle.wesl_text_reading.specs.Reading.{Reader as TreeReader, and_others, an
 use Rattle.wesl_text_reading.proofs.Filled.{no_some}
 use Rattle.wesl_text_reading.proofs.KindsAgain.{label_is}
 use Rattle.wesl_text_reading.proofs.Deeper.{call_deeper}
+use Rattle.wesl_text_reading.proofs.Within.{within_read}
 use Rattle.wesl_text_read.specs.Levels.{bare_at, component_of, deeper, indexing_at, inner, operand_at, operations_at, post_at, posts_at, prefixed_at}
 use Rattle.wesl_text_read.proofs.Levels.{bare-operand, no-post, no-room-behind, one-level, one-post, prefixed-operand}
 
@@ -199,4 +200,5 @@ whole-call n ts x c h = by (operand_at n ts) refl h
 -- A call that is read as an expression, at a number of levels, is read as a call at the same number.
 pub expressed-call : (n : ℕ) (ts : List Token) (c : TreeOf Text) (us : List Token) → inner n an_expression ts ≡ Some (expression (branch call_expression (c ∷ [])), us) → inner n a_call ts ≡ Some (c, us)
 expressed-call zero ts c us h = absurd (no_some (expression (branch call_expression (c ∷ [])), us) h)
-expressed-call (suc n) ts c us h = call_deeper n ts (c, us) (whole-call n ts (expression (branch call_expression (c ∷ [])), us) refl (turned (one-level (suc n) n any ts refl) ∙ h))
+expressed-call (suc n) ts c us h = call_deeper n ts (c, us) (whole-call n ts (expression (branch call_expression (c ∷ [])), us) refl
+    (within_read (suc n) (after (operand_at n ts) (λ e us. operations_at n any n e us)) (expression (branch call_expression (c ∷ [])), us) (turned (one-level (suc n) n any ts refl) ∙ h)))

@@ -1,5 +1,6 @@
 -- Expressions, with the types and calls in them, are read.
 use Rattle.std.proofs.Common.{◌≡◌, ◌⊎◌, ℕ, zero, suc, Bool, true, false, not, ◌&&◌, ◌||◌, if◌then◌else◌, List, [], ◌∷◌, length, Some, None, option_and_then, option_map, refl, sym as turned, inl, inr, ap, ◌∙◌, subst}
+use Rattle.std.proofs.lemmas.Bool.{le-leb}
 use Rattle.wesl_tree_names.specs.Path.{Text}
 use Rattle.wesl_tree_syntax.specs.Tree.{Kind, reference, kind, ident, unary, end, tree, TreeOf, literal, call_expression, call, type_or_identifier, type_expression, template_argument, list}
 use Rattle.wesl_text_tokens.specs.declared.symbol.Symbol.TheVariants as is
@@ -9,12 +10,13 @@ use Rattle.wesl_text_form.specs.Names.{is_free}
 use Rattle.wesl_text_form.specs.Operators.{Class, operator_class, takes_left}
 use Rattle.wesl_text_form.specs.Productions.{Sort, an_expression, a_bare_expression, a_call, a_type, an_argument, an_ident, a_literal, a_path, Row, nothing, sym, opens, closes, own, leaf, commas, optional, row_of, rows_of_bare_expression}
 use Rattle.wesl_text_form.specs.Spelling.{Label, Forest, spells, trailing, leaf_slots, first_slots, fits, stands_as}
+use Rattle.wesl_text_form.specs.Says.{levels}
 use Rattle.wesl_text_reading.specs.Leaves.{Read, after, where_so, read_leaf}
 use Rattle.wesl_text_reading.specs.FirstTokens.{begins_sign, begins_path, unary_first, operand_label, begins_expression}
-use Rattle.wesl_text_reading.specs.Reading.{Reader, node_of, any, taken, behind_child, begins_child, separate_of, label_first, read_row, read_part, read_node, node, ranked, at_level, reading}
+use Rattle.wesl_text_reading.specs.Reading.{Reader, node_of, any, taken, behind_child, begins_child, separate_of, label_first, read_row, read_part, read_node, node, whole, ranked, within_levels, at_level, reading}
 use Rattle.wesl_text_reading.proofs.Filled.{no_true, fill}
 use Rattle.wesl_text_reading.proofs.Takes.{first_parts}
-use Rattle.wesl_text_reading.proofs.Within.{Within, within_below}
+use Rattle.wesl_text_reading.proofs.Within.{Within, within_below, levels_at_most}
 use Rattle.wesl_text_reading.proofs.RowReads.{Rest, RowOk, row_reads}
 use Rattle.wesl_text_reading.proofs.Loops.{separate_reads}
 use Rattle.wesl_text_reading.proofs.Types.{no_step, path_reads}
@@ -206,11 +208,13 @@ pub complete : (n : ℕ) → ReadsExpressions (λ p ts. at_level n p an_expressi
 complete zero p closed l c ts us h w q b e f t = absurd (subst (λ z. Within 0 (tree z c end)) (expression_parts l c ts us h).0 w).0
 complete (suc n) p closed l c ts us h w q b e f t =
     let exprs : (l : Label) (c : Forest) (ts us : List Token) → fill (first_slots l c (spells c) an_expression) ts ≡ Some us → Within n (tree l c end) → Ended us → at_level n any an_expression ts ≡ Some (node_of l c, us) = from_any (λ p ts. at_level n p an_expression ts) n (complete n) in
-    whole_reads (ranked (at_level n any) 6) (λ p ts. at_level n p an_expression ts) n (complete n)
+    let read : whole (ranked (at_level n any) 6) (λ p ts. at_level n p an_expression ts) p n ts ≡ Some (node_of l c, us)
+    = whole_reads (ranked (at_level n any) 6) (λ p ts. at_level n p an_expression ts) n (complete n)
     (base_reads (ranked (at_level n any) 6) n exprs
     (type_reads (ranked (at_level n any) 1) n (argument_reads (ranked (at_level n any) 0) n exprs))
     (call_reads (ranked (at_level n any) 2) n exprs (type_reads (ranked (at_level n any) 1) n (argument_reads (ranked (at_level n any) 0) n exprs))))
-    p closed l c ts us h w q b e f t
+    p closed l c ts us h w q b e f t in
+    ap (λ z. within_levels (suc n) z) read ∙ ap (λ b. if b then Some (node_of l c, us) else None) (le-leb (levels (tree l c end)) (suc n) (levels_at_most (tree l c end) (suc n) w))
 
 -- an expression that is said is read
 pub expression_reads : (n : ℕ) (l : Label) (c : Forest) (ts us : List Token) → fill (first_slots l c (spells c) an_expression) ts ≡ Some us → Within n (tree l c end) → Ended us → reading n an_expression ts ≡ Some (node_of l c, us)

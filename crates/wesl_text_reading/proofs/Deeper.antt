@@ -1,5 +1,6 @@
 -- What is read of expressions and of attributes at a number of levels is read at one more.
-use Rattle.std.proofs.Common.{◌≡◌, ◌⊎◌, ℕ, zero, suc, Bool, true, false, not, ◌&&◌, ◌||◌, if◌then◌else◌, List, [], ◌∷◌, length, Option, Some, None, option_and_then, refl, sym as turned, inl, inr, ap, ◌∙◌, codes, bytes_eq}
+use Rattle.std.proofs.Common.{◌≡◌, ◌⊎◌, ◌≤◌, ℕ, zero, suc, Bool, true, false, not, ◌&&◌, ◌||◌, if◌then◌else◌, nat_le, List, [], ◌∷◌, length, Option, Some, None, option_and_then, refl, sym as turned, inl, inr, ap, ◌∙◌, codes, bytes_eq, arith}
+use Rattle.std.proofs.lemmas.Bool.{le-leb, leb-true}
 use Rattle.wesl_tree_names.specs.Path.{Text}
 use Rattle.wesl_tree_syntax.specs.Tree.{kind, at, unary, binary, end, TreeOf, before, leaf as tree_leaf, branch, present, absent, literal, call_expression, named_component, indexing, type_or_identifier}
 use Rattle.wesl_tree_syntax.specs.declared.expression.UnaryOperator.{UnaryOperator}
@@ -10,6 +11,7 @@ use Rattle.wesl_text_form.specs.Slots.{behind_token, behind_if_there}
 use Rattle.wesl_text_form.specs.Operators.{Class, operator_class, is_tight, takes_right, unary_symbol, binary_symbol}
 use Rattle.wesl_text_form.specs.Productions.{Sort, an_expression, a_bare_expression, a_call, a_type, an_argument, an_attribute, a_bare_attribute, a_name, a_path, Row, nothing, sym, may_sym, says, opens, closes, own, leaf, commas, optional, unended, row_of, rows_of_bare_expression, rows_of_bare_attribute}
 use Rattle.wesl_text_form.specs.Spelling.{Label, Forest, fits, stands_as}
+use Rattle.wesl_text_form.specs.Says.{levels}
 use Rattle.wesl_text_reading.specs.Leaves.{Read, after, where_so, read_leaf}
 use Rattle.wesl_text_reading.specs.FirstTokens.{has_attributes, begins_sort, begins_sign, behind_first, unary_first, operand_label}
 use Rattle.wesl_text_reading.specs.Reading.{Reader, node_of, and_others, all_of, separate_of, attributes_first, behind_attributes, behind_child, begins_child, begins_row, label_first, read_row, read_part, read_node, node, any, expression, class_in, next_operator, posts, operand, go_on, whole, ranked, at_level, reading}
@@ -327,10 +329,20 @@ module _ (n : ℕ) (expressions : (q : Class → Bool) (ts : List Token) (x : Tr
 
 -- ---- all levels
 
+-- what has at most so many levels has at most one more
+more_levels : (k n : ℕ) (t : TreeOf Text) (us : List Token) (x : TreeOf Text × List Token) → where_so (nat_le k (suc n)) t us ≡ Some x → where_so (nat_le k (suc (suc n))) t us ≡ Some x
+more_levels k n t us x h = by (nat_le k (suc n)) refl h where
+  by : (b : Bool) → nat_le k (suc n) ≡ b → where_so b t us ≡ Some x → where_so (nat_le k (suc (suc n))) t us ≡ Some x
+  by false e g = absurd (no_some x g)
+  by true e g = let le : k ≤ suc n = leb-true k (suc n) e in ap (λ b. where_so b t us) (le-leb k (suc (suc n)) (omega (arith, le))) ∙ g
+
 expressions_more : (n : ℕ) (q : Class → Bool) (ts : List Token) (x : TreeOf Text × List Token) → at_level n q an_expression ts ≡ Some x → at_level (suc n) q an_expression ts ≡ Some x
 expressions_more zero q ts x h = absurd (no_some x h)
 expressions_more (suc n) q ts x h =
-    whole_more (ranked (at_level n any) 6) (ranked (at_level (suc n) any) 6) (λ r us. at_level n r an_expression us) (λ r us. at_level (suc n) r an_expression us) (operands_more n (expressions_more n)) (expressions_more n) q n ts x h
+    after_more (whole (ranked (at_level n any) 6) (λ r us. at_level n r an_expression us) q n ts) (whole (ranked (at_level (suc n) any) 6) (λ r us. at_level (suc n) r an_expression us) q (suc n) ts)
+    (λ t us. where_so (nat_le (levels (before t end)) (suc n)) t us) (λ t us. where_so (nat_le (levels (before t end)) (suc (suc n))) t us) x
+    (λ y k. whole_more (ranked (at_level n any) 6) (ranked (at_level (suc n) any) 6) (λ r us. at_level n r an_expression us) (λ r us. at_level (suc n) r an_expression us) (operands_more n (expressions_more n)) (expressions_more n) q n ts y k)
+    (λ y k. more_levels (levels (before y.0 end)) n y.0 y.1 x k) h
 
 one_attribute_more : (n : ℕ) (ts : List Token) (x : TreeOf Text × List Token) → reading n an_attribute ts ≡ Some x → reading (suc n) an_attribute ts ≡ Some x
 one_attribute_more n ts x h = attributes_more n (expressions_more n) ts x h

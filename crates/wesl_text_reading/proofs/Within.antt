@@ -1,8 +1,14 @@
 -- Trees that are nested at most so deep.
-use Rattle.std.proofs.Common.{ℕ, zero, suc, Bool, true, false}
-use Rattle.wesl_tree_syntax.specs.Tree.{end, tree}
+use Rattle.std.proofs.Common.{◌≡◌, ◌≤◌, ℕ, zero, suc, Bool, true, false, if◌then◌else◌, nat_le, List, Some, None, arith}
+use Rattle.std.proofs.Math.Nat.{max-le}
+use Rattle.wesl_tree_names.specs.Path.{Text}
+use Rattle.wesl_tree_syntax.specs.Tree.{TreeOf, before, end, tree}
+use Rattle.wesl_text_tokens.specs.Tokens.{Token}
 use Rattle.wesl_text_form.specs.Spelling.{Label, Forest}
-use Rattle.wesl_text_form.specs.Says.{is_level}
+use Rattle.wesl_text_form.specs.Says.{is_level, levels}
+use Rattle.wesl_text_reading.specs.Leaves.{Read, where_so}
+use Rattle.wesl_text_reading.specs.Reading.{within_levels}
+use Rattle.wesl_text_reading.proofs.Filled.{no_some}
 
 -- trees with at most n levels
 abbrev pub Within : ℕ → Forest → Type 0
@@ -27,3 +33,20 @@ within_below l c o n w = at (is_level l) n w.0 where
   at false m x = x
   at true zero x = absurd x
   at true (suc m) x = within_more c m x
+
+-- trees have no more levels than they are within
+pub levels_at_most : (f : Forest) (n : ℕ) → Within n f → levels f ≤ n
+levels_at_most end n w = omega arith
+levels_at_most (tree l c o) n w = max-le (at (λ m x. levels_at_most c m x) (is_level l) n w.0) (levels_at_most o n w.1) where
+  at : ((m : ℕ) → Within m c → levels c ≤ m) → (b : Bool) (m : ℕ) → Under b m c → (if b then suc (levels c) else levels c) ≤ m
+  at below false m x = below m x
+  at below true zero x = absurd x
+  at below true (suc m) x = let h : levels c ≤ m = below m x in omega (arith, h)
+
+-- what is read with at most so many levels is read
+pub within_read : (n : ℕ) (r : Read (TreeOf Text)) (x : TreeOf Text × List Token) → within_levels n r ≡ Some x → r ≡ Some x
+within_read n None x h = h
+within_read n (Some y) x h = by (nat_le (levels (before y.0 end)) n) h where
+  by : (b : Bool) → where_so b y.0 y.1 ≡ Some x → let r : Read (TreeOf Text) = Some y in r ≡ Some x
+  by false g = absurd (no_some x g)
+  by true g = g

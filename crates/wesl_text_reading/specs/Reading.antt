@@ -1,5 +1,5 @@
 -- The reading of tokens by the grammar: by descent, one token ahead, or what stands behind attributes, a type or an expression.
-use Rattle.std.specs.Prelude.{ℕ, zero, suc, Bool, true, false, not, ◌&&◌, ◌||◌, ◌==◌, if◌then◌else◌, List, [], ◌∷◌, length, Option, Some, None, option_and_then, codes}
+use Rattle.std.specs.Prelude.{ℕ, zero, suc, Bool, true, false, not, ◌&&◌, ◌||◌, ◌==◌, if◌then◌else◌, nat_le, List, [], ◌∷◌, length, Option, Some, None, option_and_then, codes}
 use Rattle.wesl_tree_names.specs.Path.{Text}
 use Rattle.wesl_tree_syntax.specs.Tree.{kind, at, reference, ident, unary, binary, space, access, end, tree, TreeOf, before, leaf as tree_leaf, branch, expression_node, statement_node, attribute_node, member_node, import_node, directive_node, declaration_node, named_component, indexing, call, type_or_identifier, type_expression, template_argument, list, present, absent, compound, if_clause, else_if_clause, else_clause, switch_clause, default_case, expression_case, continuing, break_if, import_statement, import_item, import_collection, import_entry, member, parameter}
 use Rattle.wesl_tree_syntax.specs.Unit.{UnitOf}
@@ -7,6 +7,7 @@ use Rattle.wesl_text_tokens.specs.declared.symbol.Symbol.TheVariants as is
 use Rattle.wesl_text_tokens.specs.Tokens.{Token, name, symbol, open_list, close_list}
 use Rattle.wesl_tree_syntax.specs.declared.expression.BinaryOperator.{BinaryOperator}
 use Rattle.wesl_text_form.specs.Slots.{behind_token, behind_if_there, comes_first}
+use Rattle.wesl_text_form.specs.Says.{levels}
 use Rattle.wesl_text_form.specs.Operators.{Class, class_of, operator_class, is_tight, takes_left, takes_right}
 use Rattle.wesl_text_form.specs.Productions.{Sort, an_expression, a_bare_expression, a_call, a_type, an_argument, an_attribute, a_bare_attribute, a_body, an_if, an_else_if, an_else, a_clause, a_selector, a_continuing, a_break_if, a_kind, a_space, an_access, a_content, an_entry, an_import, a_bare_import, a_directive, a_bare_directive, a_member, a_bare_member, a_parameter, a_statement, a_bare_statement, a_declaration, a_bare_declaration, a_name, a_path, Row, nothing, sym, may_sym, says, opens, closes, own, leaf, run, commas, optional, inside, target, selectors, unended, arrow, row_of}
 use Rattle.wesl_text_form.specs.Spelling.{Label, Forest, label_at, is_absent_at, is_simple, fits, stands_as, leads_to_place, unit_row}
@@ -298,11 +299,16 @@ abbrev pub is_expression : Sort → Bool
 is_expression an_expression = true
 is_expression _ = false
 
--- the nodes of a sort with at most n levels, an expression where its class passes the test
+-- a tree that is read, where it has at most n levels
+abbrev pub within_levels : ℕ → Read (TreeOf Text) → Read (TreeOf Text)
+within_levels n r = after r (λ t us. where_so (nat_le (levels (before t end)) n) t us)
+
+-- The nodes of a sort with at most n levels, an expression where its class passes the test. An expression is read only where its
+-- tree has no more levels, which bounds what goes on behind an expression too: operators, `.` and `[..]`.
 abbrev pub at_level : ℕ → (Class → Bool) → Sort → Reader
 at_level zero p s ts = None
 at_level (suc n) p s ts = elim (is_expression s) as (λ _. Read (TreeOf Text)) [
-  | true ↦ whole (ranked (at_level n any) 6) (λ q us. at_level n q an_expression us) p n ts
+  | true ↦ within_levels (suc n) (whole (ranked (at_level n any) 6) (λ q us. at_level n q an_expression us) p n ts)
   | false ↦ ranked (at_level n any) 7 s ts
 ]
 

@@ -1,5 +1,5 @@
 -- What is marked in a text are the tokens that are laid out in it.
-use Rattle.std.proofs.Common.{◌≡◌, ◌⊎◌, inl, inr, ℕ, suc, ◌+◌, ◌-◌, Bool, true, false, ◌&&◌, List, [], ◌∷◌, ◌++◌, length, map, take, drop, Option, Some, None, Result, Ok, Err, String, Vec, Global, refl, ap, sym, ◌∙◌, subst, append-nil, append_assoc, length-append, arith, rules}
+use Rattle.std.proofs.Common.{◌≡◌, ℕ, ◌+◌, ◌-◌, Bool, true, false, ◌&&◌, List, [], ◌∷◌, ◌++◌, length, take, drop, Option, Some, None, Result, Ok, Err, Vec, Global, refl, ap, sym, ◌∙◌, append_assoc, length-append, arith, rules}
 use Rattle.std.specs.Prelude.{OnOk, is_err, string_bytes}
 use Rattle.std.proofs.lemmas.Bool.{and_parts}
 use Rattle.std.proofs.lemmas.Slice.Eq.{bytes_eq-Decides}
@@ -11,10 +11,10 @@ use Rattle.wesl_text_tokens.specs.Tokens.{Token, name, number, symbol, open_list
 use Rattle.wesl_text_form.specs.Slots.{same_token}
 use Rattle.wesl_text_form.specs.Says.{same_tokens}
 use Rattle.wesl_text_sink.specs.declared.kind.Mark.{Mark}
-use Rattle.wesl_text_sink.specs.Layout.{Laid, kind_of, laid_tokens, layout, mark_at, marks_from, token_by, token_text}
+use Rattle.wesl_text_sink.specs.Layout.{Laid, kind_of, laid_tokens, layout, marks_from, token_by, token_text}
 use Rattle.wesl_text_sink.specs.Filling.{Blanked, Shows}
 use Rattle.wesl_text_sink.specs.declared.sink.TextSink.{TextSink}
-use Rattle.wesl_text_sink.specs.Finished.{IsMisread, IsRead, are_read, is_read_as, token_at, tokens_at}
+use Rattle.wesl_text_sink.specs.Finished.{IsMisread, IsRead, are_read, is_read_as, tokens_at}
 
 kinds_back : (t : Token) → token_by (kind_of t) (token_text t) ≡ t
 kinds_back (name t) = refl

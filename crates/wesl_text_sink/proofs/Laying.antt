@@ -1,5 +1,5 @@
 -- A token that is written is laid out behind those before it.
-use Rattle.std.proofs.Common.{◌≡◌, ℕ, suc, ◌+◌, map, Bool, true, false, not, ◌&&◌, List, [], ◌∷◌, ◌++◌, length, Option, Some, None, IsUtf8, refl, ap, sym, ◌∙◌, subst, append-nil, append_assoc, length-append, get_or, drop, take, ◌-◌, ◌<◌, ◌≤◌, arith}
+use Rattle.std.proofs.Common.{◌≡◌, ℕ, suc, ◌+◌, map, Bool, true, false, ◌&&◌, List, [], ◌∷◌, ◌++◌, length, Option, Some, None, IsUtf8, refl, ap, sym, ◌∙◌, subst, append-nil, append_assoc, length-append, get_or, drop, take, ◌-◌, ◌<◌, ◌≤◌, arith}
 use Rattle.std.proofs.lemmas.List.{length-map}
 use Rattle.std.proofs.Math.Seq.{take-length}
 use denote.Ref.{Bor}
@@ -12,7 +12,7 @@ use Rattle.std.proofs.lemmas.Bool.{and_parts}
 use Rattle.std.proofs.lemmas.Str.{is_utf8-from_IsUtf8}
 use Rattle.wesl_tree_names.specs.Path.{Text}
 use Rattle.wesl_text_tokens.specs.Tokens.{Token}
-use Rattle.wesl_text_form.specs.Names.{are_names, are_words, is_name, is_word}
+use Rattle.wesl_text_form.specs.Names.{are_names, is_name, is_word}
 use Rattle.wesl_text_form.specs.Slots.{Slot, must, same_token}
 use Rattle.wesl_text_form.specs.Says.{same_tokens}
 use Rattle.wesl_text_tokens.specs.declared.token.PlacedToken.{PlacedToken}
@@ -26,7 +26,7 @@ use Rattle.wesl_text_sink.specs.declared.kind.Mark.{Mark}
 use Rattle.wesl_text_sink.specs.declared.sink.TextSink.{TextSink}
 use Rattle.wesl_text_sink.specs.declared.fault.PrintFault.{PrintFault}
 use Rattle.wesl_text_sink.specs.Layout.{Laid, are_apart, are_blanks, are_laid, is_spelled, kind_of, last_kind, layout, mark_at, marks_from, token_by, token_text}
-use Rattle.wesl_text_sink.specs.Filling.{Filled, Fills, Lays, Shows, rule_slots, slashed_name, slashed_slots}
+use Rattle.wesl_text_sink.specs.Filling.{Fills, Lays, Shows, rule_slots, slashed_name, slashed_slots}
 use Rattle.wesl_text_sink.specs.Words.{is_refusal}
 
 both : (x y : Bool) → x ≡ true → y ≡ true → (x && y) ≡ true

@@ -1,4 +1,13 @@
+pub mod Assembled
+pub mod Bracketed
 pub mod Finishing
+pub mod Joined
 pub mod Laying
+pub mod LayoutRead
 pub mod Marks
+pub mod Pieces
+pub mod Runs
+pub mod SlotWords
 pub mod Spelled
+pub mod Touched
+pub mod UnitPrinted

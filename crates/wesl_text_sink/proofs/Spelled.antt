@@ -1,12 +1,12 @@
 -- The tokens of a text by those with their places.
-use Rattle.std.proofs.Common.{◌≡◌, Bool, true, false, not, ◌&&◌, List, [], ◌∷◌, map, drop, length, Option, Some, None, option_map, refl, ap, sym, ◌∙◌}
+use Rattle.std.proofs.Common.{◌≡◌, Bool, true, false, ◌&&◌, List, [], ◌∷◌, map, drop, Option, Some, None, option_map, refl, ap, sym, ◌∙◌}
 use Rattle.std.specs.Str.{chars}
 use Rattle.wesl_tree_names.specs.Path.{Text}
 use Rattle.wesl_text_tokens.specs.declared.token.PlacedToken.{PlacedToken}
 use Rattle.wesl_text_tokens.specs.Pieces.{Piece, pieces, bits_of}
-use Rattle.wesl_text_tokens.specs.Tokens.{Token, name, Made, made_of, first_start, finish_at, Placed, placed_from, placed_tokens, tokens}
-use Rattle.wesl_text_tokens.specs.Views.{all_placed_of, placed_of, token_of}
-use Rattle.wesl_text_form.specs.Names.{is_alone, is_free, is_name, is_word}
+use Rattle.wesl_text_tokens.specs.Tokens.{Made, made_of, Placed, placed_from, placed_tokens, tokens}
+use Rattle.wesl_text_tokens.specs.Views.{all_placed_of, token_of}
+use Rattle.wesl_text_form.specs.Names.{is_free, is_name, is_word}
 
 same_tokens : (ms : List Made) (ps : List Piece) → map (λ p. p.token) (placed_from ms ps) ≡ map (λ m. m.token) ms
 same_tokens [] ps = refl

@@ -1,9 +1,8 @@
 -- What a sink has been given: the tokens that its text is laid out of.
-use Rattle.std.specs.Prelude.{◌≡◌, refl, ℕ, ◌+◌, Bool, true, false, ◌&&◌, List, [], ◌∷◌, ◌++◌, length, map, Option, Some, None, string_bytes}
+use Rattle.std.specs.Prelude.{◌≡◌, refl, true, false, ◌&&◌, List, [], ◌∷◌, ◌++◌, length, Option, Some, None, string_bytes}
 use Rattle.std.proofs.Common.{sym, ap, ◌∙◌, subst, append_assoc}
 use Rattle.wesl_tree_base.specs.Pieces.{is_empty}
 use Rattle.wesl_tree_names.specs.Path.{Text}
-use Rattle.wesl_text_tokens.specs.Tokens.{Token}
 use Rattle.wesl_text_form.specs.Slots.{Slot, fewest, slot_tokens}
 use Rattle.wesl_text_form.specs.Names.{are_words, is_name}
 use Rattle.wesl_text_form.specs.Spelling.{Slots, followed, is_one_or_two, named, parted, provided, signed}
@@ -28,8 +27,8 @@ pub record Filled (ss : Slots) (ls : List Laid) (new : TextSink) : Type 0 where
   pub tokens : laid_tokens laid ≡ fewest slots
   pub shows : Shows new (ls ++ laid)
 
--- What a sink does with slots: without a fault their tokens are laid out behind those before; a fault other than a limit is noted
--- where there are no slots alone; and the first fault stays.
+-- What a sink does with slots: without a fault their tokens are laid out behind those before; a fault other than a limit is
+-- noted where there are no slots alone; and the first fault stays.
 pub record Fills (ss : Slots) (old new : TextSink) : Type 0 where
   pub kept : (f : PrintFault) → old.fault ≡ Some f → new.fault ≡ Some f
   pub filled : new.fault ≡ None → (ls : List Laid) → Shows old ls → Filled ss ls new

@@ -1,5 +1,5 @@
 -- What is handed out where all is printed.
-use Rattle.std.specs.Prelude.{◌≡◌, ◌⊎◌, ℕ, ◌-◌, Bool, true, false, List, [], ◌∷◌, map, take, drop, Option, Some, None, Result, Ok, Err, IfOk, string_bytes}
+use Rattle.std.specs.Prelude.{◌≡◌, ◌⊎◌, ◌-◌, Bool, true, false, List, map, take, drop, Option, Some, None, Result, Ok, Err, string_bytes}
 use Rattle.std.proofs.Common.{String, Global}
 use Rattle.wesl_tree_names.specs.Path.{Text}
 use Rattle.wesl_text_tokens.specs.Tokens.{Token, tokens}

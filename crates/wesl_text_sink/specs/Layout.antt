@@ -1,5 +1,5 @@
 -- Text in which tokens are laid out: blanks, a token, blanks, a token, and so on.
-use Rattle.std.specs.Prelude.{ℕ, ◌+◌, Bool, true, false, not, ◌&&◌, ◌||◌, List, [], ◌∷◌, ◌++◌, length, map, Option, Some, None, codes}
+use Rattle.std.specs.Prelude.{ℕ, ◌+◌, Bool, true, not, ◌&&◌, ◌||◌, List, [], ◌∷◌, ◌++◌, length, map, Option, Some, None, codes}
 use Rattle.std.specs.Str.{is_utf8}
 use Rattle.wesl_tree_base.specs.Pieces.{is_empty}
 use Rattle.wesl_tree_names.specs.Path.{Text}
@@ -66,7 +66,9 @@ are_apart (Some j) blanks k = not (is_empty blanks) || may_touch j k
 -- whether tokens are laid out behind another, if there is one
 abbrev pub are_laid : Option Kind → List Laid → Bool
 are_laid before [] = true
-are_laid before (l ∷ ls) = (are_blanks l.blanks && is_spelled l.token) && (are_apart before l.blanks (kind_of l.token) && are_laid (Some (kind_of l.token)) ls)
+are_laid before (l ∷ ls) =
+    (are_blanks l.blanks && is_spelled l.token)
+    && (are_apart before l.blanks (kind_of l.token) && are_laid (Some (kind_of l.token)) ls)
 
 -- where a token stands behind so many bytes and these blanks
 abbrev pub mark_at : ℕ → Text → Kind → Text → Mark
@@ -75,7 +77,9 @@ mark_at at blanks k t = record { kind = k; start = at + length blanks; end = at 
 -- where tokens stand, the first of them behind so many bytes
 abbrev pub marks_from : ℕ → List Laid → List Mark
 marks_from at [] = []
-marks_from at (l ∷ ls) = mark_at at l.blanks (kind_of l.token) (token_text l.token) ∷ marks_from (at + length l.blanks + length (token_text l.token)) ls
+marks_from at (l ∷ ls) =
+    mark_at at l.blanks (kind_of l.token) (token_text l.token)
+    ∷ marks_from (at + length l.blanks + length (token_text l.token)) ls
 
 -- the kind of the last token, if there is one
 abbrev pub last_kind : List Mark → Option Kind

@@ -1,5 +1,5 @@
 -- Which tokens may stand side by side with nothing between them.
-use Rattle.std.specs.Prelude.{ℕ, Bool, true, false, not, ◌&&◌, ◌||◌, ◌==◌, List, [], ◌∷◌, codes}
+use Rattle.std.specs.Prelude.{ℕ, Bool, true, false, not, ◌&&◌, ◌||◌, ◌==◌, [], ◌∷◌, codes}
 use Rattle.wesl_tree_names.specs.Path.{Text}
 use Rattle.wesl_text_tokens.specs.Characters.{is_one_of}
 use Rattle.wesl_text_tokens.specs.Symbols.{symbol_text}
@@ -28,14 +28,14 @@ last_of (c ∷ d ∷ cs) = last_of (d ∷ cs)
 abbrev pub is_run : ℕ → Bool
 is_run = is_one_of (codes "&|+-:<>/")
 
--- Two signs that begin a symbol or a comment where nothing stands between them: `=` behind any other, `&&`, `||`, `++`, `--`, `::`,
--- `<<`, `>>`, `//`, `->` and `/*`.
+-- Two signs that begin a symbol or a comment where nothing stands between them: `=` behind any other, `&&`, `||`, `++`,
+-- `--`, `::`, `<<`, `>>`, `//`, `->` and `/*`.
 abbrev pub runs_on : ℕ → ℕ → Bool
 runs_on a b = (b == 61) || ((a == b) && is_run a) || ((a == 45) && (b == 62)) || ((a == 47) && (b == 42))
 
--- Whether a token may stand right behind another. Names and numbers go on where no sign stands between them, a number goes on with
--- `.`, and `.` begins a number; two signs are told apart unless they begin a symbol or a comment. The two that close template lists
--- in one another are told apart by the lists.
+-- Whether a token may stand right behind another. Names and numbers go on where no sign stands between them, a number goes
+-- on with `.`, and `.` begins a number; two signs are told apart unless they begin a symbol or a comment. The two that close
+-- template lists in one another are told apart by the lists.
 abbrev pub may_touch : Kind → Kind → Bool
 may_touch kinds.Name kinds.Name = false
 may_touch kinds.Name kinds.Number = false

@@ -9,9 +9,10 @@ use Rattle.wesl_text_form.specs.Productions.{Sort, an_expression}
 use Rattle.wesl_text_form.specs.Spelling.{Forest, Slots, slots, slots_as, spells, unit_row}
 use Rattle.wesl_text_form.specs.Says.{Says}
 use Rattle.wesl_text_reading.specs.Leaves.{Read}
-use Rattle.wesl_text_reading.specs.Reading.{Reader, read_row, read_part, node, any, rank, ranked, at_level, reading, unit_of, where_all_is_read}
+use Rattle.wesl_text_reading.specs.Reading.{Reader, read_row, read_part, node, any, whole, rank, ranked, at_level, reading, unit_of, where_all_is_read}
 use Rattle.wesl_text_sound.specs.Laws.{TreesAreSaid, UnitsAreSaid, TextsAreSaid}
 use Rattle.wesl_text_reading.proofs.Filled.{no_some, of_some, no_true, fill}
+use Rattle.wesl_text_reading.proofs.Within.{within_read}
 use Rattle.wesl_text_sound.proofs.ListsSaid.{NodeSaid, IsSound, RowSaid}
 use Rattle.wesl_text_sound.proofs.RowsSaid.{row_said}
 use Rattle.wesl_text_sound.proofs.NodesSaid.{node_said, part_said}
@@ -37,7 +38,9 @@ none_read = ((λ s ts x a h. absurd (no_some x h)), (λ q passes ts x a h. absur
 one_above : (n : ℕ) → SoundAt n → SoundAt (suc n)
 one_above n p = ((λ s ts x a h. of_sort s ts x a h), (λ q passes ts x a h. expressions q passes ts x a h)) where
   expressions : IsSoundOf (λ q ts. at_level (suc n) q an_expression ts)
-  expressions q passes ts x a h = whole_said (ranked (at_level n any) 6) (λ q us. at_level n q an_expression us) (ranked_said (at_level n any) p.0 6) p.1 q passes n ts x a h
+  expressions q passes ts x a h =
+      whole_said (ranked (at_level n any) 6) (λ q us. at_level n q an_expression us) (ranked_said (at_level n any) p.0 6) p.1 q passes n ts x a
+      (within_read (suc n) (whole (ranked (at_level n any) 6) (λ q us. at_level n q an_expression us) q n ts) x h)
 
   of_sort : (s : Sort) → IsSound (at_level (suc n) any s) s
   of_sort an_expression ts x a h = (expressions any (λ c k. refl) ts x a h).0

@@ -1,4 +1,4 @@
-use Rattle.std.proofs.Common.{◌≡◌, ℕ, suc, ◌+◌, ◌-◌, true, false, Some, None, length, refl, sym, ◌∙◌, subst, true≢false, arith, rules}
+use Rattle.std.proofs.Common.{◌≡◌, ℕ, suc, ◌+◌, ◌-◌, true, false, Some, None, length, nat_le, refl, sym, ap, ◌∙◌, subst, true≢false, arith, rules}
 use Rattle.wesl_tree_syntax.specs.Tree.{before, end, list, reference}
 use Rattle.wesl_tree_syntax.specs.View.{argument_view, expression_tree, expression_view, listed, type_view}
 use Rattle.wesl_text_tokens.specs.Views.{token_of}
@@ -11,6 +11,7 @@ use Rattle.wesl_text_reading.specs.Reading.{begins_post, next_operator}
 use Rattle.wesl_text_operands.specs.Classes.{class_view}
 use Rattle.wesl_text_read.specs.Within.{allows}
 use Rattle.wesl_text_read.specs.First.{number_first, word_first}
+use Rattle.wesl_text_read.specs.Depth.{levels_in}
 use Rattle.wesl_text_read.specs.Leads.{Reads, ahead}
 use Rattle.wesl_text_read.specs.declared.reader.Reader.{Reader}
 use Rattle.wesl_text_read.specs.Levels.{operand_at}
@@ -18,7 +19,7 @@ use Rattle.wesl_text_read.specs.Parts.{commas_at}
 use Rattle.wesl_text_read.proofs.Chains.{chain_breaks, chain_ends, chained, posted, posts_break, posts_end}
 use Rattle.wesl_text_read.proofs.Leading.{levelled}
 use Rattle.wesl_text_read.proofs.Lists.{Lists, list_begins, list_ends, list_more}
-use Rattle.wesl_text_read.proofs.Expressions.{argument_more, bare_enclosed, enclosed_read, indexing_read, list_closed, operand_bare, operand_prefixed, operation_read, prefixed_read, template_opened, type_parts, viewed, whole_read, worded_call, worded_type}
+use Rattle.wesl_text_read.proofs.Expressions.{argument_more, bare_enclosed, enclosed_read, indexing_read, list_closed, operand_bare, operand_prefixed, Untested, operation_read, prefixed_read, template_opened, tested_read, type_parts, viewed, whole_read, worded_call, worded_type}
 use Rattle.wesl_text_read.proofs.Rows.{row_commas, row_ends, row_sign}
 use Rattle.wesl_text_read.proofs.Trees.{made_type, view-call, view-type}
 use Rattle.std.proofs.lemmas.List.{length-map}
@@ -72,8 +73,12 @@ expression-returns t c =
     let up : c.operations-whole.new.self.levels + 1 ≡ c.args.self.now.levels = omega arith in
     let below : Reader = record c.args.self.now { levels = c.args.self.now.levels - 1 } in
     let read : Reads (operand_at below.levels) (expression_tree c.operand-first.result) below c.operand-first.new.self = c.operand-first.ensures in
-    levelled {s = below} {e = c.operations-whole.new.self} refl refl refl refl refl refl up
-    (whole_read {s = below} {m = c.operand-first.new.self} {e = c.operations-whole.new.self} c.args.self.now.levels (allows c.args.within) c.operand-first.result c.operations-whole.result above read c.operations-whole.ensures)
+    let again : Reader = record c.operations-whole.new.self { levels = c.operations-whole.new.self.levels + 1 } in
+    let untested : Untested c.args.self.now.levels (allows c.args.within) (expression_tree c.operations-whole.result) c.args.self.now again
+    = levelled {s = below} {e = c.operations-whole.new.self} refl refl refl refl refl refl up
+    (whole_read {s = below} {m = c.operand-first.new.self} {e = c.operations-whole.new.self} c.args.self.now.levels (allows c.args.within) c.operand-first.result c.operations-whole.result above read c.operations-whole.ensures) in
+    tested_read {m = again} c.args.self.now.levels (allows c.args.within) (expression_tree c.operations-whole.result) c.levels_are_within-fits.result
+    (c.levels_are_within-fits.ensures ∙ ap (λ z. nat_le (levels_in (expression_tree c.operations-whole.result)) z) up) untested c.wrong_if.ensures.refuses c.wrong_if.ensures.same
 
 pub operations-operations-preserved : goal.operations-operations-preserved
 operations-operations-preserved t c =

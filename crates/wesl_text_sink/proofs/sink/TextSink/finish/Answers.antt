@@ -1,6 +1,4 @@
-use Rattle.std.proofs.Common.{sym, ◌∙◌, ◌≡◌, Bool, true, false, List, ap, inr, refl, string_bytes}
-use Rattle.wesl_tree_names.specs.Path.{Text}
-use Rattle.wesl_text_sink.specs.declared.kind.Mark.{Mark}
+use Rattle.std.proofs.Common.{sym, ◌∙◌, ◌≡◌, true, false, inr, refl, string_bytes}
 use Rattle.wesl_text_sink.specs.Filling.{Blanked}
 use Rattle.wesl_text_sink.specs.Finished.{is_read_as}
 use Rattle.wesl_text_sink.proofs.Finishing.{blanked_so, is_misread, is_read, told_of}

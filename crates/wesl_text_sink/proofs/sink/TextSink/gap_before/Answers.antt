@@ -1,4 +1,4 @@
-use Rattle.std.proofs.Common.{ℕ, ◌<◌, ◌-◌, length, get_or, List, ◌≡◌, sym, subst, ap}
+use Rattle.std.proofs.Common.{◌<◌, ◌-◌, length, get_or, List, ◌≡◌, sym, subst}
 use Rattle.wesl_text_sink.specs.declared.kind.Mark.{Mark}
 use Rattle.wesl_text_sink.proofs.Marks.{apart_touching, last_marked}
 use Rattle.wesl_text_sink.proofs.sink.TextSink.gap_before.Goals as goal
