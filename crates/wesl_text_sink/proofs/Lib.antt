@@ -6,6 +6,7 @@ pub mod Laying
 pub mod LayoutRead
 pub mod Marks
 pub mod Pieces
+pub mod Plain
 pub mod Runs
 pub mod SlotWords
 pub mod Spelled

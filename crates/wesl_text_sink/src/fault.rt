@@ -29,10 +29,13 @@ impl fmt::Display for PrintFault {
             PrintFault::Unwritable(reason) => {
                 write!(f, "no text says this: {}", reason_of(*reason))
             }
-            PrintFault::NoWord => write!(f, "a word is wanted that is no name and no keyword"),
-            PrintFault::NoName => write!(f, "a name is wanted that may not be declared"),
-            PrintFault::NoNumber => write!(f, "a number is wanted that is no literal of WGSL"),
-            PrintFault::NoRule => write!(f, "a rule is wanted that is not one word or two"),
+            PrintFault::NoWord => write!(f, "what should be a word is none"),
+            PrintFault::NoName => write!(
+                f,
+                "what should be a name is none, or is a keyword or reserved"
+            ),
+            PrintFault::NoNumber => write!(f, "what should be a number is none"),
+            PrintFault::NoRule => write!(f, "what should be a rule of a diagnostic is none"),
             PrintFault::NotAsMeant => {
                 write!(
                     f,

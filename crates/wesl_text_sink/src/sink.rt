@@ -247,14 +247,14 @@ impl TextSink {
     ghost use Rattle.wesl_text_sink.specs.Filling.{Blanked};
     ghost use Rattle.wesl_text_sink.specs.Finished.{Finishes};
 
-    // Ends the last line where a new one was to begin.
+    // Ends the last line, if there is one, where a new one was to begin.
     fn end_line(&mut self) -> Result<(), AllocError>
         ensures marks { self.new.marks ≡ self.old.marks }
         ensures blanked { OnOk result (Blanked (string_bytes self.old.text) (string_bytes self.new.text)) }
     {
         match self.gap {
-            Gap::Line | Gap::EmptyLine => self.text.push_str("\n"),
-            Gap::Nothing | Gap::Blank => Ok(()),
+            Gap::Line | Gap::EmptyLine if !self.marks.is_empty() => self.text.push_str("\n"),
+            _ => Ok(()),
         }
     }
 

@@ -72,6 +72,13 @@ fn lays_out_lines(rt: HostRuntime) {
 }
 
 #[test]
+fn lays_out_nothing(rt: HostRuntime) {
+    let mut sink = TextSink::new(rt.alloc());
+    sink.line();
+    assert!(rt; hands_out(sink, ""));
+}
+
+#[test]
 fn lays_out_packages_and_rules(rt: HostRuntime) {
     let mut sink = TextSink::new(rt.alloc());
     sink.package("a/b/c");

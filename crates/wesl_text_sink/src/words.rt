@@ -8,7 +8,8 @@ ghost use Rattle.wesl_text_tokens.specs.Tokens.{name as name_token, number as nu
 ghost use Rattle.wesl_text_tokens.specs.Reading.{IsFaultOf};
 ghost use Rattle.wesl_text_tokens.specs.Views.{token_of};
 ghost use Rattle.wesl_tree_names.specs.Path.{Text};
-ghost use Rattle.wesl_text_sink.specs.Words.{Tells};
+ghost use Rattle.std.specs.List.{list_all};
+ghost use Rattle.wesl_text_sink.specs.Words.{Tells, begins_plain, is_plain, is_plain_name};
 
 use crate::fault::PrintFault;
 use std::alloc::{AllocError, Global};
@@ -19,6 +20,9 @@ use wesl_text_tokens::{PlacedToken, Token, TokenFault, read_tokens};
 pub(crate) fn is_word(alloc: Global, text: &str) -> Result<bool, PrintFault>
     ensures { Tells result (is_word text.now) }
 {
+    if is_plain_name(text.as_bytes()) {
+        return Ok(true);
+    }
     match read_tokens(alloc, text) {
         Ok(tokens) => Ok(is_name_alone(tokens.as_slice(), text)),
         Err(fault) => without_tokens(fault),
@@ -58,6 +62,42 @@ pub(crate) fn between_dots(alloc: Global, text: &str) -> Result<Vec<&str>, Alloc
     ensures { IfOk result (λ parts. texts parts.items ≡ cut dot text.now) }
 {
     text.split('.').collect(alloc)
+}
+
+// Whether a text is a name of ASCII, which needs no memory to tell.
+fn is_plain_name(text: &[u8]) -> bool
+    ensures { result ≡ is_plain_name text.now }
+{
+    match text {
+        [first, others @ ..] => begins_plain(*first) && are_plain(others),
+        [] => false,
+    }
+}
+
+// Whether a name of ASCII goes on with each of these.
+fn are_plain(bytes: &[u8]) -> bool
+    ensures { result ≡ list_all is_plain bytes.now }
+{
+    for byte in bytes {
+        if !is_plain(*byte) {
+            return false;
+        }
+    }
+    true
+}
+
+// Whether a name of ASCII goes on with a character.
+fn is_plain(byte: u8) -> bool
+    ensures { result ≡ is_plain byte }
+{
+    begins_plain(byte) || b'0' <= byte && byte <= b'9'
+}
+
+// Whether a name of ASCII begins with a character.
+fn begins_plain(byte: u8) -> bool
+    ensures { result ≡ begins_plain byte }
+{
+    byte == b'_' || b'a' <= byte && byte <= b'z' || b'A' <= byte && byte <= b'Z'
 }
 
 // What is said of a text that has no tokens: it is neither a word nor a number, unless a limit was met.

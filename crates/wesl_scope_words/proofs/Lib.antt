@@ -1,0 +1,11 @@
+pub mod Quiet
+pub mod Expressions
+pub mod Attributes
+pub mod Steps
+pub mod Declared
+pub mod Views
+pub mod Freedom
+pub mod Counted
+pub mod Within
+pub mod Kept
+pub mod Complete

@@ -1,0 +1,5 @@
+pub mod Said
+pub mod Captured
+pub mod Adds
+pub mod Finding
+pub mod Free
