@@ -8,7 +8,7 @@
 mod telling;
 mod words;
 
-use crate::telling::{Told, checked, printed, tree, trees};
+use crate::telling::{Told, checked, no_text, printed, tree, trees};
 use crate::words::{Wish, wish_of};
 use std::alloc::{AllocError, Global};
 use std::io::{Read, Write};
@@ -22,14 +22,22 @@ fn main(rt: HostRuntime) -> ExitCode {
         let _ = eprintln!(rt; "wesl-text: expected --tree, --trees, --print or --check");
         return ExitCode::from(2);
     };
-    let mut text = String::new(alloc);
-    if rt.stdin().read_to_string(&mut text).is_err() {
+    let mut bytes = Vec::new(alloc);
+    if rt.stdin().read_to_end(&mut bytes).is_err() {
         let _ = eprintln!(rt; "wesl-text: the text cannot be read");
         return ExitCode::from(2);
     }
-    match told(alloc, wish, text.as_str()) {
+    match told_of_bytes(alloc, wish, bytes.as_slice()) {
         Ok(told) => write(&told, &mut rt.stdout()),
         Err(_) => ExitCode::from(2),
+    }
+}
+
+// What is told of bytes, which may be no text.
+fn told_of_bytes(alloc: Global, wish: Wish, bytes: &[u8]) -> Result<Told, AllocError> {
+    match std::str::from_utf8(bytes) {
+        Ok(text) => told(alloc, wish, text),
+        Err(_) => no_text(alloc),
     }
 }
 

@@ -1,7 +1,7 @@
 //! What is told of a text.
 use serde_json::Value;
 use std::alloc::{AllocError, Global};
-use wesl_text::{TextFault, print_unit, read_unit};
+use wesl_text::{PrintFault, TextFault, print_unit, read_unit};
 use wesl_tree::TranslationUnit;
 
 /// What is told, and whether the text is read.
@@ -24,6 +24,7 @@ pub fn printed(alloc: Global, text: &str) -> Result<Told, AllocError> {
     match read_unit(alloc, text) {
         Ok(unit) => match print_unit(alloc, &unit) {
             Ok(text) => read(text),
+            Err(PrintFault::Memory) => Err(AllocError),
             Err(fault) => not_read(format!(in alloc; "{fault}\n")?),
         },
         Err(fault) => faulty(alloc, fault),
@@ -43,6 +44,7 @@ pub fn trees(alloc: Global, array: &str) -> Result<Told, AllocError> {
     let mut lines = String::new(alloc);
     let value = match Value::from_str(alloc, array) {
         Ok(value) => value,
+        Err(fault) if fault.is_memory() => return Err(AllocError),
         Err(_) => return not_read(lines),
     };
     let Some(texts) = value.as_array() else {
@@ -55,6 +57,11 @@ pub fn trees(alloc: Global, array: &str) -> Result<Told, AllocError> {
         }
     }
     read(lines)
+}
+
+/// What is told of bytes that are no text.
+pub fn no_text(alloc: Global) -> Result<Told, AllocError> {
+    not_read(String::from_str(alloc, "{\"fault\":\"no UTF-8\"}\n")?)
 }
 
 // What is told of a text that is read.
@@ -83,8 +90,11 @@ fn tree_line(alloc: Global, unit: &TranslationUnit) -> Result<String, AllocError
     Ok(line)
 }
 
-// A fault as a line of JSON.
+// A fault as a line of JSON. Want of memory is answered as such.
 fn faulty(alloc: Global, fault: TextFault<'_>) -> Result<Told, AllocError> {
+    if let TextFault::Memory = fault {
+        return Err(AllocError);
+    }
     let words = format!(in alloc; "{fault}")?;
     let told = Value::try_from_str(alloc, words.as_str())?.to_string(alloc)?;
     let line = match fault.place() {

@@ -1,0 +1,15 @@
+pub mod Asking
+pub mod Rows
+pub mod Empty
+pub mod First
+pub mod Halting
+pub mod Searching
+pub mod Closing
+pub mod Placing
+pub mod Over
+pub mod Keeping
+pub mod Walking
+pub mod Taking
+pub mod Turning
+pub mod Placed
+pub mod Opening
