@@ -1,5 +1,5 @@
 -- What is printed for a tree has no comma or colon behind one that may stand.
-use Rattle.std.proofs.Common.{◌≡◌, zero, suc, Bool, true, false, not, ◌&&◌, ◌||◌, if◌then◌else◌, List, [], ◌∷◌, ◌++◌, length, Some, None, option_map, refl, sym as turned, ap, ◌∙◌, subst, append-nil, codes, nat_le}
+use Rattle.std.proofs.Common.{◌≡◌, zero, suc, Bool, true, false, not, ◌&&◌, ◌||◌, if◌then◌else◌, List, [], ◌∷◌, ◌++◌, length, Some, None, option_map, refl, sym as turned, ap, ◌∙◌, subst, append-nil, codes, nat_le, ◌⊎◌, inl, inr}
 use Rattle.wesl_tree_base.specs.Pieces.{cut, supers}
 use Rattle.wesl_tree_names.specs.Path.{Text, Origin, absolute, relative, from_package}
 use Rattle.wesl_tree_syntax.specs.Tree.{Kind, kind, at, ident, text, texts, truth, path, unary, binary, assignment, space, access, end, tree, present, absent, list, attributes, for_loop, expression_node, statement_node, attribute_node, member_node, import_node, directive_node, declaration_node}
@@ -7,7 +7,7 @@ use Rattle.wesl_tree_syntax.specs.Kinds.{same_kind, same_role}
 use Rattle.wesl_tree_syntax.specs.declared.statement.AssignmentOperator.TheVariants as assignment_operator
 use Rattle.wesl_text_tokens.specs.declared.symbol.Symbol.{Symbol}
 use Rattle.wesl_text_tokens.specs.declared.symbol.Symbol.TheVariants as is
-use Rattle.wesl_text_tokens.specs.Tokens.{number, open_list, close_list}
+use Rattle.wesl_text_tokens.specs.Tokens.{number, open_list, close_list, Token, symbol}
 use Rattle.wesl_text_form.specs.Slots.{must, alone}
 use Rattle.wesl_text_form.specs.Names.{is_word, is_number, is_name, are_words, are_names, is_path, is_among, known_attributes}
 use Rattle.wesl_text_form.specs.Operators.{class_of, is_tight}
@@ -18,7 +18,10 @@ use Rattle.wesl_text_reading.proofs.Filled.{no_some, of_some, no_true}
 use Rattle.wesl_text_reading.proofs.Takes.{and_parts}
 use Rattle.wesl_text_reading.proofs.KindsAgain.{kind_is, label_is}
 use Rattle.wesl_text_reading.proofs.Unended.{ends_with, ends_gone, splits}
-use Rattle.wesl_text_writable.proofs.Clear.{is_soft_sign, is_hard_before, is_clear_before, are_hard, are_clear, clear_any, clear_joined, clear_followed, clear_may, trailing_clear}
+use Rattle.wesl_text_writable.proofs.Clear.{braced, is_left_out, is_hard_before, is_clear_before, are_hard, are_clear, clear_any, clear_joined, clear_followed, clear_may, clear_must, trailing_clear}
+use Rattle.wesl_text_writable.proofs.Braced.{is_comma}
+use Rattle.wesl_text_writable.proofs.BodyTrees.{braced_followed, body_braced}
+use Rattle.wesl_text_writable.proofs.KnownApart.{touches}
 use Rattle.wesl_text_writable.proofs.HardTrees.{is_hard, of_provided, of_either, of_node, rows_are_hard}
 
 -- ---- which rows
@@ -29,13 +32,18 @@ is_listed some_words = true
 is_listed one_or_two = true
 is_listed f = false
 
+-- a body comes first
+abbrev is_body : Row → Bool
+is_body (own a_body row) = true
+is_body row = false
+
 -- whether behind each comma and colon that may stand another token comes, where it is told whether one comes behind all
 abbrev pub is_clear : Bool → Row → Bool
 is_clear b nothing = true
-is_clear b (sym s row) = is_clear b row
-is_clear b (may_sym s row) = is_soft_sign s && (is_hard b row && is_clear b row)
+is_clear b (sym s row) = (is_hard b row || not (touches (symbol s))) && is_clear b row
+is_clear b (may_sym s row) = is_left_out (symbol s) && ((is_comma (symbol s) || is_body row) && (is_hard b row && is_clear b row))
 is_clear b (says w row) = is_clear b row
-is_clear b (opens row) = is_clear b row
+is_clear b (opens row) = is_hard b row && is_clear b row
 is_clear b (closes row) = is_clear b row
 is_clear b (own s row) = is_clear b row
 is_clear b (leaf f row) = (not (is_listed f) || is_hard b row) && is_clear b row
@@ -46,7 +54,7 @@ is_clear b (inside k ins row) = is_clear false ins && is_clear b row
 is_clear b (target row) = is_clear b row
 is_clear b (selectors row) = is_hard b row && is_clear b row
 is_clear b (unended s row) = false
-is_clear b (arrow row) = is_clear b row
+is_clear b (arrow row) = is_hard b row && is_clear b row
 
 -- the one with parts that are statements without their `;`
 abbrev is_for : Label → Bool
@@ -107,10 +115,10 @@ simple_row l r h e = absurd (no_true e)
 
 -- ---- leaves
 
-parted_clear : (s : Symbol) (ts : List Text) (b : Bool) → is_clear_before b (parted s ts) ≡ true
-parted_clear s [] b = refl
-parted_clear s (t ∷ []) b = refl
-parted_clear s (t ∷ u ∷ us) b = parted_clear s (u ∷ us) b
+parted_clear : (s : Symbol) → touches (symbol s) ≡ false → (ts : List Text) (b : Bool) → is_clear_before b (parted s ts) ≡ true
+parted_clear s e [] b = refl
+parted_clear s e (t ∷ []) b = refl
+parted_clear s e (t ∷ u ∷ us) b = ap (λ z. (not z || is_hard_before b (parted s (u ∷ us))) && is_clear_before b (parted s (u ∷ us))) e ∙ parted_clear s e (u ∷ us) b
 
 stepped_clear : (ts : List Text) (b : Bool) → is_clear_before b (stepped ts) ≡ true
 stepped_clear [] b = refl
@@ -120,7 +128,7 @@ path_clear : (slashes : Bool) (o : Origin) (b : Bool) → is_clear_before b (ori
 path_clear slashes absolute b = refl
 path_clear slashes (relative zero) b = refl
 path_clear slashes (relative (suc n)) b = stepped_clear (supers (suc n)) b
-path_clear slashes (from_package p) b = clear_joined (parted is.Slash (package_words slashes p)) (signed is.ColonColon ∷ []) b (parted_clear is.Slash (package_words slashes p) (is_hard_before b (signed is.ColonColon ∷ []))) refl
+path_clear slashes (from_package p) b = clear_joined (parted is.Slash (package_words slashes p)) (signed is.ColonColon ∷ []) b (parted_clear is.Slash refl (package_words slashes p) (is_hard_before b (signed is.ColonColon ∷ []))) refl
 
 -- a leaf before other tokens
 leaf_clear : (f : Leaf) (l : Label) (o : Forest) → are_clear true (leaf_slots f l o) ≡ true
@@ -131,9 +139,9 @@ leaf_clear a_word (text t) o = of_provided (are_clear true) (is_word t) (named t
 leaf_clear a_custom (text t) o = of_provided (are_clear true) (is_word t && not (is_among known_attributes t)) (named t ∷ []) refl refl
 leaf_clear a_literal (truth b) o = refl
 leaf_clear a_literal (text t) o = of_provided (are_clear true) (is_number t) (must (number t) ∷ []) refl refl
-leaf_clear a_rule (text t) o = of_provided (are_clear true) (are_words (cut dot t) && is_one_or_two (length (cut dot t))) (parted is.Period (cut dot t)) refl (parted_clear is.Period (cut dot t) true)
-leaf_clear some_words (texts ts) o = of_provided (are_clear true) (are_words ts && nat_le 1 (length ts)) (trailing (parted is.Comma ts)) refl (trailing_clear (Some (parted is.Comma ts)) (parted_clear is.Comma ts false))
-leaf_clear one_or_two (texts ts) o = of_provided (are_clear true) (are_words ts && is_one_or_two (length ts)) (trailing (parted is.Comma ts)) refl (trailing_clear (Some (parted is.Comma ts)) (parted_clear is.Comma ts false))
+leaf_clear a_rule (text t) o = of_provided (are_clear true) (are_words (cut dot t) && is_one_or_two (length (cut dot t))) (parted is.Period (cut dot t)) refl (parted_clear is.Period refl (cut dot t) true)
+leaf_clear some_words (texts ts) o = of_provided (are_clear true) (are_words ts && nat_le 1 (length ts)) (trailing (parted is.Comma ts)) refl (trailing_clear (Some (parted is.Comma ts)) (parted_clear is.Comma refl ts false))
+leaf_clear one_or_two (texts ts) o = of_provided (are_clear true) (are_words ts && is_one_or_two (length ts)) (trailing (parted is.Comma ts)) refl (trailing_clear (Some (parted is.Comma ts)) (parted_clear is.Comma refl ts false))
 leaf_clear steps (texts ts) o = of_provided (are_clear true) (are_names ts) (stepped ts) refl (stepped_clear ts true)
 leaf_clear (a_path slashes) (path p) o = of_provided (are_clear true) (is_path slashes p) (origin_slots slashes p.origin ++ stepped p.components) refl
     (clear_joined (origin_slots slashes p.origin) (stepped p.components) true (path_clear slashes p.origin (is_hard_before true (stepped p.components))) (stepped_clear p.components true))
@@ -148,7 +156,7 @@ bare_clear a_word e b (text t) o = of_provided (are_clear b) (is_word t) (named 
 bare_clear a_custom e b (text t) o = of_provided (are_clear b) (is_word t && not (is_among known_attributes t)) (named t ∷ []) refl refl
 bare_clear a_literal e b (truth x) o = refl
 bare_clear a_literal e b (text t) o = of_provided (are_clear b) (is_number t) (must (number t) ∷ []) refl refl
-bare_clear a_rule e b (text t) o = of_provided (are_clear b) (are_words (cut dot t) && is_one_or_two (length (cut dot t))) (parted is.Period (cut dot t)) refl (parted_clear is.Period (cut dot t) b)
+bare_clear a_rule e b (text t) o = of_provided (are_clear b) (are_words (cut dot t) && is_one_or_two (length (cut dot t))) (parted is.Period (cut dot t)) refl (parted_clear is.Period refl (cut dot t) b)
 bare_clear some_words e b l o = absurd (no_true (turned e))
 bare_clear one_or_two e b l o = absurd (no_true (turned e))
 bare_clear steps e b (texts ts) o = of_provided (are_clear b) (are_names ts) (stepped ts) refl (stepped_clear ts b)
@@ -199,15 +207,40 @@ begins_so a c b h g = clear_followed a c b (clear_any a (are_hard b c) h) g
 goes_so : (a c : Slots) (b : Bool) → are_clear true a ≡ true → are_hard b c ≡ true → are_clear b c ≡ true → are_clear b (followed a c) ≡ true
 goes_so a c b h e g = clear_followed a c b (ap (λ z. are_clear z a) e ∙ h) g
 
+-- what begins with another token, or a token that does not depend on it
+hard_or : (f : Forest) (row : Row) (b : Bool) (t : Token) → (is_hard b row || not (touches t)) ≡ true → (are_hard b ((spells f).row row) ≡ true) ⊎ (touches t ≡ false)
+hard_or f row b t h = by (is_hard b row) refl h where
+  not_so : (z : Bool) → not z ≡ true → z ≡ false
+  not_so true h = absurd (no_true h)
+  not_so false h = refl
+
+  by : (z : Bool) → is_hard b row ≡ z → (z || not (touches t)) ≡ true → (are_hard b ((spells f).row row) ≡ true) ⊎ (touches t ≡ false)
+  by true e g = inl (rows_are_hard f row b e)
+  by false e g = inr (not_so (touches t) g)
+
+-- a comma, or what is before a body
+body_or : (f : Forest) (row : Row) (z : Bool) → (z || is_body row) ≡ true → (z || braced ((spells f).row row)) ≡ true
+body_or f row true h = refl
+body_or f (own a_body row) false h = at f where
+  at : (f : Forest) → braced ((spells f).row (own a_body row)) ≡ true
+  at end = refl
+  at (tree l c o) = braced_followed (first_slots l c (spells c) a_body) ((spells o).row row) (body_braced l c)
+body_or f row false h = absurd (no_true h)
+
 none_clear : RowsClear end
 none_clear nothing b h = refl
-none_clear (sym s row) b h = begins_so (Some (signed s ∷ [])) (row_of_none row) b refl (none_clear row b h)
+none_clear (sym s row) b h =
+    let x : ((is_hard b row || not (touches (symbol s))) ≡ true) × (is_clear b row ≡ true) = and_parts (is_hard b row || not (touches (symbol s))) (is_clear b row) h in
+    clear_must (symbol s) (row_of_none row) b (hard_or end row b (symbol s) x.0) (none_clear row b x.1)
 none_clear (may_sym s row) b h =
-    let x : (is_soft_sign s ≡ true) × ((is_hard b row && is_clear b row) ≡ true) = and_parts (is_soft_sign s) (is_hard b row && is_clear b row) h in
-    let y : (is_hard b row ≡ true) × (is_clear b row ≡ true) = and_parts (is_hard b row) (is_clear b row) x.1 in
-    clear_may s (row_of_none row) b x.0 (rows_are_hard end row b y.0) (none_clear row b y.1)
+    let x : (is_left_out (symbol s) ≡ true) × (((is_comma (symbol s) || is_body row) && (is_hard b row && is_clear b row)) ≡ true) = and_parts (is_left_out (symbol s)) ((is_comma (symbol s) || is_body row) && (is_hard b row && is_clear b row)) h in
+    let w : ((is_comma (symbol s) || is_body row) ≡ true) × ((is_hard b row && is_clear b row) ≡ true) = and_parts (is_comma (symbol s) || is_body row) (is_hard b row && is_clear b row) x.1 in
+    let y : (is_hard b row ≡ true) × (is_clear b row ≡ true) = and_parts (is_hard b row) (is_clear b row) w.1 in
+    clear_may s (row_of_none row) b x.0 (body_or end row (is_comma (symbol s)) w.0) (rows_are_hard end row b y.0) (none_clear row b y.1)
 none_clear (says w row) b h = begins_so (Some (named w ∷ [])) (row_of_none row) b refl (none_clear row b h)
-none_clear (opens row) b h = begins_so (Some (must open_list ∷ [])) (row_of_none row) b refl (none_clear row b h)
+none_clear (opens row) b h =
+    let x : (is_hard b row ≡ true) × (is_clear b row ≡ true) = and_parts (is_hard b row) (is_clear b row) h in
+    clear_must open_list (row_of_none row) b (inl (rows_are_hard end row b x.0)) (none_clear row b x.1)
 none_clear (closes row) b h = begins_so (Some (must close_list ∷ [])) (row_of_none row) b refl (none_clear row b h)
 none_clear r b h = refl
 
@@ -342,13 +375,18 @@ module _ (l : Label) (c o : Forest) (below : TreesClear c) (inner : BelowClear c
 
   tree_clear : RowsClear (tree l c o)
   tree_clear nothing b h = refl
-  tree_clear (sym s row) b h = begins_so (Some (signed s ∷ [])) (row_slots l c o (spells c) (spells o) row) b refl (tree_clear row b h)
+  tree_clear (sym s row) b h =
+      let x : ((is_hard b row || not (touches (symbol s))) ≡ true) × (is_clear b row ≡ true) = and_parts (is_hard b row || not (touches (symbol s))) (is_clear b row) h in
+      clear_must (symbol s) (row_slots l c o (spells c) (spells o) row) b (hard_or (tree l c o) row b (symbol s) x.0) (tree_clear row b x.1)
   tree_clear (may_sym s row) b h =
-      let x : (is_soft_sign s ≡ true) × ((is_hard b row && is_clear b row) ≡ true) = and_parts (is_soft_sign s) (is_hard b row && is_clear b row) h in
-      let y : (is_hard b row ≡ true) × (is_clear b row ≡ true) = and_parts (is_hard b row) (is_clear b row) x.1 in
-      clear_may s (row_slots l c o (spells c) (spells o) row) b x.0 (rows_are_hard (tree l c o) row b y.0) (tree_clear row b y.1)
+      let x : (is_left_out (symbol s) ≡ true) × (((is_comma (symbol s) || is_body row) && (is_hard b row && is_clear b row)) ≡ true) = and_parts (is_left_out (symbol s)) ((is_comma (symbol s) || is_body row) && (is_hard b row && is_clear b row)) h in
+      let w : ((is_comma (symbol s) || is_body row) ≡ true) × ((is_hard b row && is_clear b row) ≡ true) = and_parts (is_comma (symbol s) || is_body row) (is_hard b row && is_clear b row) x.1 in
+      let y : (is_hard b row ≡ true) × (is_clear b row ≡ true) = and_parts (is_hard b row) (is_clear b row) w.1 in
+      clear_may s (row_slots l c o (spells c) (spells o) row) b x.0 (body_or (tree l c o) row (is_comma (symbol s)) w.0) (rows_are_hard (tree l c o) row b y.0) (tree_clear row b y.1)
   tree_clear (says w row) b h = begins_so (Some (named w ∷ [])) (row_slots l c o (spells c) (spells o) row) b refl (tree_clear row b h)
-  tree_clear (opens row) b h = begins_so (Some (must open_list ∷ [])) (row_slots l c o (spells c) (spells o) row) b refl (tree_clear row b h)
+  tree_clear (opens row) b h =
+      let x : (is_hard b row ≡ true) × (is_clear b row ≡ true) = and_parts (is_hard b row) (is_clear b row) h in
+      clear_must open_list (row_slots l c o (spells c) (spells o) row) b (inl (rows_are_hard (tree l c o) row b x.0)) (tree_clear row b x.1)
   tree_clear (closes row) b h = begins_so (Some (must close_list ∷ [])) (row_slots l c o (spells c) (spells o) row) b refl (tree_clear row b h)
   tree_clear (own s row) b h = begins_so (first_slots l c (spells c) s) ((spells o).row row) b (first_clear s) (later.row row b h)
   tree_clear (leaf f row) b h =
@@ -380,14 +418,15 @@ module _ (l : Label) (c o : Forest) (below : TreesClear c) (inner : BelowClear c
       (if is_lone_default c then followed (Some (alone ∷ [])) ((spells o).row row) else followed (Some (named (codes "case") ∷ [])) (followed (option_map trailing ((spells c).separate a_selector)) ((spells o).row row)))
       refl
       (of_either (are_clear b) (is_lone_default c) (followed (Some (alone ∷ [])) ((spells o).row row)) (followed (Some (named (codes "case") ∷ [])) (followed (option_map trailing ((spells c).separate a_selector)) ((spells o).row row)))
-      (begins_so (Some (alone ∷ [])) ((spells o).row row) b refl (later.row row b x.1))
+      (goes_so (Some (alone ∷ [])) ((spells o).row row) b refl (rows_are_hard o row b x.0) (later.row row b x.1))
       (begins_so (Some (named (codes "case") ∷ [])) (followed (option_map trailing ((spells c).separate a_selector)) ((spells o).row row)) b refl
       (goes_so (option_map trailing ((spells c).separate a_selector)) ((spells o).row row) b (trailing_clear ((spells c).separate a_selector) (below.separate a_selector)) (rows_are_hard o row b x.0) (later.row row b x.1))))
   tree_clear (unended s row) b h = absurd (no_true h)
   tree_clear (arrow row) b h =
+      let x : (is_hard b row ≡ true) × (is_clear b row ≡ true) = and_parts (is_hard b row) (is_clear b row) h in
       of_either (are_clear b) (is_absent_at 0 o) (if is_end c then row_slots l c o (spells c) (spells o) row else None) (followed (Some (signed is.Arrow ∷ [])) (row_slots l c o (spells c) (spells o) row))
-      (of_either (are_clear b) (is_end c) (row_slots l c o (spells c) (spells o) row) None (tree_clear row b h) refl)
-      (begins_so (Some (signed is.Arrow ∷ [])) (row_slots l c o (spells c) (spells o) row) b refl (tree_clear row b h))
+      (of_either (are_clear b) (is_end c) (row_slots l c o (spells c) (spells o) row) None (tree_clear row b x.1) refl)
+      (clear_must (symbol is.Arrow) (row_slots l c o (spells c) (spells o) row) b (inl (rows_are_hard (tree l c o) row b x.0)) (tree_clear row b x.1))
 
   clear_here : TreesClear (tree l c o)
   clear_here = record { row = tree_clear; first = first_clear; all = all_clear; separate = separate_clear; part = part_is_clear; bare = bare_is_clear }

@@ -1,4 +1,4 @@
--- What is printed for a node begins with neither a comma nor a colon.
+-- What is printed for a node begins with no comma and no colon, nor with another token on which what comes before may depend.
 use Rattle.std.proofs.Common.{◌≡◌, zero, suc, Bool, true, false, not, ◌&&◌, ◌||◌, if◌then◌else◌, List, [], ◌∷◌, ◌++◌, length, Some, None, Option, option_map, option_and_then, refl, sym as turned, ap, ◌∙◌, codes, nat_le}
 use Rattle.wesl_tree_base.specs.Pieces.{cut, supers}
 use Rattle.wesl_tree_names.specs.Path.{Text, Origin, absolute, relative, from_package}
@@ -9,7 +9,7 @@ use Rattle.wesl_tree_syntax.specs.declared.expression.UnaryOperator.{UnaryOperat
 use Rattle.wesl_tree_syntax.specs.declared.expression.UnaryOperator.TheVariants as unary_operator
 use Rattle.wesl_text_tokens.specs.declared.symbol.Symbol.{Symbol}
 use Rattle.wesl_text_tokens.specs.declared.symbol.Symbol.TheVariants as is
-use Rattle.wesl_text_tokens.specs.Tokens.{number, symbol, open_list, close_list}
+use Rattle.wesl_text_tokens.specs.Tokens.{number, symbol, close_list}
 use Rattle.wesl_text_form.specs.Slots.{Slot, must, may, alone}
 use Rattle.wesl_text_form.specs.Names.{is_word, is_number, is_name, are_words, are_names, is_path, is_among, known_attributes}
 use Rattle.wesl_text_form.specs.Operators.{unary_symbol, class_of, is_tight}
@@ -37,7 +37,7 @@ is_hard b nothing = b
 is_hard b (sym s row) = not (is_soft_sign s)
 is_hard b (may_sym s row) = is_hard b row
 is_hard b (says w row) = true
-is_hard b (opens row) = true
+is_hard b (opens row) = false
 is_hard b (closes row) = true
 is_hard b (own s row) = true
 is_hard b (leaf f row) = is_filled f || is_hard b row
@@ -172,7 +172,7 @@ none_hard nothing b h = h
 none_hard (sym s row) b h = begins_so (Some (signed s ∷ [])) (row_of_none row) b (λ z. h)
 none_hard (may_sym s row) b h = hard_followed (Some (may (symbol s) ∷ [])) (row_of_none row) b (none_hard row b h)
 none_hard (says w row) b h = begins_so (Some (named w ∷ [])) (row_of_none row) b (λ z. refl)
-none_hard (opens row) b h = begins_so (Some (must open_list ∷ [])) (row_of_none row) b (λ z. refl)
+none_hard (opens row) b h = absurd (no_true h)
 none_hard (closes row) b h = begins_so (Some (must close_list ∷ [])) (row_of_none row) b (λ z. refl)
 none_hard r b h = refl
 
@@ -195,7 +195,7 @@ module _ (l : Label) (c o : Forest) (below : RowsHard c) (firsts : FirstHard c) 
   tree_hard (sym s row) b h = begins_so (Some (signed s ∷ [])) (row_slots l c o (spells c) (spells o) row) b (λ z. h)
   tree_hard (may_sym s row) b h = hard_followed (Some (may (symbol s) ∷ [])) (row_slots l c o (spells c) (spells o) row) b (tree_hard row b h)
   tree_hard (says w row) b h = begins_so (Some (named w ∷ [])) (row_slots l c o (spells c) (spells o) row) b (λ z. refl)
-  tree_hard (opens row) b h = begins_so (Some (must open_list ∷ [])) (row_slots l c o (spells c) (spells o) row) b (λ z. refl)
+  tree_hard (opens row) b h = absurd (no_true h)
   tree_hard (closes row) b h = begins_so (Some (must close_list ∷ [])) (row_slots l c o (spells c) (spells o) row) b (λ z. refl)
   tree_hard (own s row) b h = begins_so (first_slots l c (spells c) s) ((spells o).row row) b (first_hard s)
   tree_hard (leaf f row) b h = of_either (are_hard b) (is_end c) (followed (leaf_slots f l o) ((spells o).row row)) None (by (is_filled f) refl h) refl where

@@ -3,4 +3,4 @@
 
 mod laws;
 
-pub use laws::law_of_fewest;
+pub use laws::{law_of_fewest, law_of_texts_apart, law_of_writing};
