@@ -8,7 +8,7 @@ use Rattle.wesl_text_tokens.specs.declared.token.PlacedToken.{PlacedToken}
 use Rattle.wesl_text_read.specs.Leads.{is_memory}
 use Rattle.wesl_text.specs.Said.{IsFaultOf, SaysNone}
 use Rattle.wesl_text.proofs.Faults.{of_grammar}
-use Rattle.wesl_text.proofs.Spelled.{tokens_read}
+use Rattle.wesl_text_sink.proofs.Spelled.{tokens_read}
 use Rattle.wesl_text.proofs.reading.read_unit.Goals as goal
 
 pub returns-in-Ok-read_unit-clause-said : goal.returns-in-Ok-read_unit-clause-said
