@@ -11,11 +11,6 @@ fault_of_tokens told.TooLong = faults.TooLong
 fault_of_tokens told.Memory = faults.Memory
 fault_of_tokens f = faults.NoToken f
 
--- whether memory was wanted
-abbrev pub is_memory : TextFault → Bool
-is_memory faults.Memory = true
-is_memory f = false
-
 -- whether a token was not the one that should have stood there
 abbrev pub is_unexpected : TextFault → Bool
 is_unexpected (faults.Unexpected place expected found) = true
