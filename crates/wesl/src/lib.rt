@@ -140,7 +140,7 @@ pub use wesl_validate_faults::faults_wgsl;
 pub use wesl_visit::Collect;
 pub use wesl_visit::Holder;
 pub use wesl_visit::Kind;
-pub use wesl_visit::Node;
+pub use wesl_visit::NodeRef;
 pub use wesl_visit::Replace;
 pub use wesl_visit::Rewrite;
 pub use wesl_visit::Visit;

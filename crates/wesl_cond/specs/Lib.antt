@@ -7,6 +7,8 @@ pub use Rattle.wesl_cond_chains.specs.Laws
 pub use Rattle.wesl_cond_unit.specs.Left
 pub use Rattle.wesl_cond_alive.specs.Choices
 pub use Rattle.wesl_cond_alive.specs.Positions
+pub use Rattle.wesl_cond_features.specs.Answers
+pub use Rattle.wesl_cond_features.specs.Branch
 pub mod Conditioned
 pub mod Formula
 pub mod Units

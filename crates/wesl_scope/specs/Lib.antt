@@ -1,3 +1,13 @@
+pub use Rattle.wesl_tree_syntax.specs.Numbers
+pub use Rattle.wesl_scope_occurrences.specs.Occurrences
+pub use Rattle.wesl_scope_open.specs.Scopes
+pub use Rattle.wesl_scope_clash.specs.Faithful
+pub use Rattle.wesl_scope_clash.specs.Nodes
+pub use Rattle.wesl_scope_clashes.specs.Clashes
+pub use Rattle.wesl_validate_builtins.specs.Builtins
+pub use Rattle.wesl_validate_rules.specs.Valid
+pub use Rattle.wesl_validate_rules.specs.Faults
+pub use Rattle.wesl_validate_free.specs.Free
 pub mod Strip
 pub mod EntryPoints
 pub mod Laws

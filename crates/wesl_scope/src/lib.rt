@@ -5,12 +5,11 @@
 
 mod clash;
 mod entry_points;
-mod laws;
+pub mod laws;
 mod strip;
 mod syntax_util;
 
 pub use clash::names_clash;
-pub use laws::law_of_stripping;
 pub use strip::strip_except;
 pub use syntax_util::SyntaxUtil;
 pub use wesl_scope_clashes::{Binder, Clash, Reading, clashes};

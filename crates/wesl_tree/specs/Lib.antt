@@ -17,5 +17,6 @@ pub use Rattle.wesl_tree_syntax.specs.Numbers
 pub use Rattle.wesl_tree_interner.specs.Different
 pub use Rattle.wesl_tree_interner.specs.Interned
 pub use Rattle.wesl_tree_interner.specs.Interning
+pub use Rattle.wesl_tree_copies.specs.Copied
 pub mod Parts
 pub mod Translation

@@ -1,1 +1,11 @@
+pub use Rattle.wesl_tree_syntax.specs.Tree
+pub use Rattle.wesl_tree_syntax.specs.View
+pub use Rattle.wesl_tree_syntax.specs.Nodes
+pub use Rattle.wesl_visit_collect.specs.Sought
+pub use Rattle.wesl_visit_collect.specs.Seen
+pub use Rattle.wesl_visit_collect.specs.Walk
+pub use Rattle.wesl_visit_collect.specs.Lent
+pub use Rattle.wesl_visit_rewrite.specs.Replaced
+pub use Rattle.wesl_visit_rewrite.specs.Went
+pub use Rattle.wesl_visit_rewrite.specs.Holders
 pub mod Run

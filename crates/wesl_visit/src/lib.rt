@@ -6,4 +6,4 @@ mod visits;
 
 pub use collectors::Collect;
 pub use visits::{Visit, Visitor};
-pub use wesl_visit_rewrite::{Holder, Kind, Node, Replace, Rewrite};
+pub use wesl_visit_rewrite::{Holder, Kind, NodeRef, Replace, Rewrite};

@@ -4,11 +4,11 @@ use Rattle.wesl_tree_syntax.specs.Tree.{Tree}
 use Rattle.wesl_tree_syntax.specs.View.{expression_tree, type_view, statement_tree, attributes_tree}
 use Rattle.wesl_visit_collect.specs.Sought.{Sought}
 use Rattle.wesl_visit_collect.specs.Picks.{picks}
-use Rattle.wesl_visit_collect.specs.declared.kinds.Node.{Node}
-use Rattle.wesl_visit_collect.specs.declared.kinds.Node.TheVariants as node
+use Rattle.wesl_visit_collect.specs.declared.kinds.NodeRef.{NodeRef}
+use Rattle.wesl_visit_collect.specs.declared.kinds.NodeRef.TheVariants as node
 
 -- the tree of a node of the four kinds; an expression and a statement with their spans
-abbrev pub node_tree : Node → Tree
+abbrev pub node_tree : NodeRef → Tree
 node_tree (node.Expression n) = expression_tree n.now
 node_tree (node.TypeExpression t) = type_view t.now
 node_tree (node.Statement s) = statement_tree s.now

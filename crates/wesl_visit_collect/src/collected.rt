@@ -4,7 +4,7 @@ ghost use Rattle.wesl_tree_names.specs.declared.errors.Error as error;
 ghost use Rattle.wesl_visit_collect.specs.Nodes.{node_tree};
 ghost use Rattle.wesl_visit_collect.specs.Adds.{Begins, Ends, Enters};
 
-use crate::kinds::{Kind, Node};
+use crate::kinds::{Kind, NodeRef};
 use std::alloc::Global;
 use wesl_tree_names::Error;
 
@@ -28,7 +28,7 @@ impl<'a, T: Kind> Collected<'a, T> {
     }
 
     /// Takes the node down where it is of the kind, and answers whether the walk goes on below it.
-    pub(crate) fn enter(&mut self, node: Node<'a>) -> bool
+    pub(crate) fn enter(&mut self, node: NodeRef<'a>) -> bool
         ensures { Enters T.sought T.view self.old (node_tree node.entry) result self.new }
     {
         match T::pick(node) {

@@ -9,7 +9,7 @@ use wesl_tree_syntax::{Attributes, ExpressionNode, StatementNode, TypeExpression
 
 /// A node of one of the four kinds.
 #[derive(Clone, Copy)]
-pub enum Node<'a> {
+pub enum NodeRef<'a> {
     /// an expression
     Expression(&'a ExpressionNode),
     /// a type
@@ -27,7 +27,7 @@ pub trait Kind {
     ghost view: { Self → Tree };
 
     /// The node, where it is of this kind.
-    fn pick<'a>(node: Node<'a>) -> Option<&'a Self>
+    fn pick<'a>(node: NodeRef<'a>) -> Option<&'a Self>
         ensures { option_map (λ found. view found.now) result ≡ picked sought (node_tree node.entry) };
 }
 
@@ -36,10 +36,10 @@ impl Kind for ExpressionNode {
 
     ghost view = { expression_tree };
 
-    fn pick<'a>(node: Node<'a>) -> Option<&'a ExpressionNode> {
+    fn pick<'a>(node: NodeRef<'a>) -> Option<&'a ExpressionNode> {
         match node {
-            Node::Expression(expression) => Some(expression),
-            Node::TypeExpression(_) | Node::Statement(_) | Node::Attributes(_) => None,
+            NodeRef::Expression(expression) => Some(expression),
+            NodeRef::TypeExpression(_) | NodeRef::Statement(_) | NodeRef::Attributes(_) => None,
         }
     }
 }
@@ -49,10 +49,10 @@ impl Kind for TypeExpression {
 
     ghost view = { type_view };
 
-    fn pick<'a>(node: Node<'a>) -> Option<&'a TypeExpression> {
+    fn pick<'a>(node: NodeRef<'a>) -> Option<&'a TypeExpression> {
         match node {
-            Node::TypeExpression(ty) => Some(ty),
-            Node::Expression(_) | Node::Statement(_) | Node::Attributes(_) => None,
+            NodeRef::TypeExpression(ty) => Some(ty),
+            NodeRef::Expression(_) | NodeRef::Statement(_) | NodeRef::Attributes(_) => None,
         }
     }
 }
@@ -62,10 +62,10 @@ impl Kind for StatementNode {
 
     ghost view = { statement_tree };
 
-    fn pick<'a>(node: Node<'a>) -> Option<&'a StatementNode> {
+    fn pick<'a>(node: NodeRef<'a>) -> Option<&'a StatementNode> {
         match node {
-            Node::Statement(statement) => Some(statement),
-            Node::Expression(_) | Node::TypeExpression(_) | Node::Attributes(_) => None,
+            NodeRef::Statement(statement) => Some(statement),
+            NodeRef::Expression(_) | NodeRef::TypeExpression(_) | NodeRef::Attributes(_) => None,
         }
     }
 }
@@ -75,12 +75,12 @@ impl Kind for Attributes {
 
     ghost view = { attributes_tree };
 
-    fn pick<'a>(node: Node<'a>) -> Option<&'a Attributes> {
+    fn pick<'a>(node: NodeRef<'a>) -> Option<&'a Attributes> {
         match node {
-            Node::Attributes(attributes) => Some(attributes),
-            Node::Expression(_) => None,
-            Node::TypeExpression(_) => None,
-            Node::Statement(_) => None,
+            NodeRef::Attributes(attributes) => Some(attributes),
+            NodeRef::Expression(_) => None,
+            NodeRef::TypeExpression(_) => None,
+            NodeRef::Statement(_) => None,
         }
     }
 }

@@ -16,6 +16,6 @@ pub use collect::declaration::{
 pub use collect::expression::{in_expression, in_type};
 pub use collect::statement::{in_assert, in_declaration, in_else, in_statement};
 pub use collected::Collected;
-pub use kinds::{Kind, Node};
+pub use kinds::{Kind, NodeRef};
 pub use laws::{law_of_expressions, law_of_variants, law_of_words};
 pub use rewriters::{Replace, Rewrite};

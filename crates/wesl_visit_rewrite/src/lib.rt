@@ -5,4 +5,4 @@ mod holders;
 mod replace;
 
 pub use holders::Holder;
-pub use wesl_visit_collect::{Kind, Node, Replace, Rewrite};
+pub use wesl_visit_collect::{Kind, NodeRef, Replace, Rewrite};

@@ -5,7 +5,7 @@ ghost use Rattle.wesl_visit_collect.specs.Adds.{Adds};
 
 use crate::collect::expression::{at_expression, at_expressions, at_type};
 use crate::collected::Collected;
-use crate::kinds::{Kind, Node};
+use crate::kinds::{Kind, NodeRef};
 use wesl_tree_syntax::{Attribute, Attributes, ExpressionNode, TypeExpression};
 
 pub(crate) fn at_optional_expression<'a, T: Kind>(
@@ -60,7 +60,7 @@ pub fn in_attribute<'a, T: Kind>(attribute: &'a Attribute, found: &mut Collected
 pub(crate) fn at_attributes<'a, T: Kind>(attributes: &'a Attributes, found: &mut Collected<'a, T>)
     ensures { Adds T.sought T.view found.old (before (attributes_tree attributes.now) end) found.new }
 {
-    if found.enter(Node::Attributes(attributes)) {
+    if found.enter(NodeRef::Attributes(attributes)) {
         for attribute in attributes {
             in_attribute(&attribute.node, found);
         }

@@ -7,7 +7,7 @@ use crate::collect::attribute::{at_attributes, at_optional_type};
 use crate::collect::expression::at_type;
 use crate::collect::statement::{in_assert, in_compound, in_declaration};
 use crate::collected::Collected;
-use crate::kinds::{Kind, Node};
+use crate::kinds::{Kind, NodeRef};
 use wesl_tree_syntax::{
     Attributes, Function, GlobalDeclaration, GlobalDeclarationNode, GlobalDirective,
     GlobalDirectiveNode, ImportStatementNode, Struct, StructMember, TypeAlias,
@@ -84,7 +84,7 @@ pub fn in_imports<'a, T: Kind>(imports: &'a Vec<ImportStatementNode>, found: &mu
     ensures { Adds T.sought T.view found.old (before (imports_tree imports.now) end) found.new }
 {
     for import in imports {
-        found.enter(Node::Attributes(&import.node.attributes));
+        found.enter(NodeRef::Attributes(&import.node.attributes));
     }
 }
 
@@ -98,19 +98,19 @@ fn in_directive<'a, T: Kind>(directive: &'a GlobalDirective, found: &mut Collect
             severity: _,
             rule: _,
         } => {
-            found.enter(Node::Attributes(attributes));
+            found.enter(NodeRef::Attributes(attributes));
         }
         GlobalDirective::Enable {
             attributes,
             names: _,
         } => {
-            found.enter(Node::Attributes(attributes));
+            found.enter(NodeRef::Attributes(attributes));
         }
         GlobalDirective::Requires {
             attributes,
             names: _,
         } => {
-            found.enter(Node::Attributes(attributes));
+            found.enter(NodeRef::Attributes(attributes));
         }
     }
 }

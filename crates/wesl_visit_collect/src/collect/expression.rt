@@ -5,7 +5,7 @@ ghost use Rattle.wesl_tree_syntax.specs.View.{argument_view, call_view, expressi
 ghost use Rattle.wesl_visit_collect.specs.Adds.{Adds};
 
 use crate::collected::Collected;
-use crate::kinds::{Kind, Node};
+use crate::kinds::{Kind, NodeRef};
 use wesl_tree_syntax::{Expression, ExpressionNode, FunctionCall, TemplateArg, TypeExpression};
 
 /// Adds the nodes of a kind in an expression, in document order. Refused for want of memory alone.
@@ -42,7 +42,7 @@ pub fn in_expression<'a, T: Kind>(expression: &'a Expression, found: &mut Collec
 pub(crate) fn at_expression<'a, T: Kind>(node: &'a ExpressionNode, found: &mut Collected<'a, T>)
     ensures { Adds T.sought T.view found.old (before (expression_tree node.now) end) found.new }
 {
-    if found.enter(Node::Expression(node)) {
+    if found.enter(NodeRef::Expression(node)) {
         in_expression(&node.node, found);
     }
 }
@@ -55,7 +55,7 @@ pub(crate) fn at_expressions<'a, T: Kind>(
     ensures { Adds T.sought T.view found.old (forest_of (map expression_tree expressions.now.items)) found.new }
 {
     for node in expressions {
-        if !found.enter(Node::Expression(node)) {
+        if !found.enter(NodeRef::Expression(node)) {
             continue;
         }
         in_expression(&node.node, found);
@@ -74,7 +74,7 @@ pub(crate) fn in_call<'a, T: Kind>(call: &'a FunctionCall, found: &mut Collected
 pub(crate) fn at_type<'a, T: Kind>(ty: &'a TypeExpression, found: &mut Collected<'a, T>)
     ensures { Adds T.sought T.view found.old (before (type_view ty.now) end) found.new }
 {
-    if found.enter(Node::TypeExpression(ty)) {
+    if found.enter(NodeRef::TypeExpression(ty)) {
         in_type(ty, found);
     }
 }

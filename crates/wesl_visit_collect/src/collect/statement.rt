@@ -8,7 +8,7 @@ ghost use Rattle.wesl_visit_collect.specs.Adds.{Adds};
 use crate::collect::attribute::{at_attributes, at_optional_expression, at_optional_type};
 use crate::collect::expression::{at_expression, in_call};
 use crate::collected::Collected;
-use crate::kinds::{Kind, Node};
+use crate::kinds::{Kind, NodeRef};
 use wesl_tree_syntax::{
     BreakIfStatement, CaseSelector, CompoundStatement, ConstAssert, ContinuingStatement,
     Declaration, ElseClause, ElseIfClause, Statement, StatementNode, SwitchClause,
@@ -175,7 +175,7 @@ fn at_optional_statement<'a, T: Kind>(
     match node {
         None => {}
         Some(node) => {
-            if found.enter(Node::Statement(node)) {
+            if found.enter(NodeRef::Statement(node)) {
                 in_statement(&node.node, found);
             }
         }
@@ -187,7 +187,7 @@ fn at_statements<'a, T: Kind>(statements: &'a Vec<StatementNode>, found: &mut Co
     ensures { Adds T.sought T.view found.old (forest_of (map statement_tree statements.now.items)) found.new }
 {
     for node in statements {
-        if !found.enter(Node::Statement(node)) {
+        if !found.enter(NodeRef::Statement(node)) {
             continue;
         }
         in_statement(&node.node, found);
