@@ -12,6 +12,7 @@ pub fn answered(row: Row<'_>) -> Value {
         "value_of_unit_2" => units::with_places(row),
         "value_of_unit of an enable directive" => units::enabled(row),
         "JsonText::read" => units::text_read(row),
+        "value_of_text, then text_of_value" => units::value_read(row),
         "TranslationUnit::new" => row.tree_of(&TranslationUnit::new(row.alloc)),
         "TranslationUnit::from_parts" => units::made(row),
         "TranslationUnit::into_parts" => units::parted(row),

@@ -1,6 +1,6 @@
 //! Units: their JSON form, their texts and their parts.
 use serde_json::Value;
-use wesl_json::{JsonText, unit_of_value, value_of_unit_2};
+use wesl_json::{JsonText, text_of_value, unit_of_value, value_of_text, value_of_unit_2};
 use wesl_resolve_base::UnitText;
 use wesl_rows_base::{Object, Row, printed};
 use wesl_tree::{GlobalDirective, Names, Span, Spanned, TranslationUnit};
@@ -51,6 +51,14 @@ pub fn enabled(row: Row<'_>) -> Value {
 pub fn text_read(row: Row<'_>) -> Value {
     match row.told(JsonText.read(row.alloc, row.text("text"))) {
         Ok(unit) => printed(row, &unit),
+        Err(fault) => fault,
+    }
+}
+
+/// The text of the value that the `text` is, or the fault where it is none.
+pub fn value_read(row: Row<'_>) -> Value {
+    match row.told(value_of_text(row.alloc, row.text("text"))) {
+        Ok(value) => row.printed(text_of_value(row.alloc, &value)),
         Err(fault) => fault,
     }
 }
