@@ -13,6 +13,7 @@ use Rattle.wesl_link_split.specs.Split as split
 use Rattle.wesl_link_split.specs.Split.{Binder}
 use Rattle.wesl_link_split.specs.declared.binders.Facts.{Facts}
 use Rattle.wesl_tree_interner.proofs.Different.{added, get_cases, none_passes}
+use Rattle.wesl_link_split.proofs.Lists.{length_one}
 use Rattle.wesl_link_split.proofs.Targets.{found_true, any_there, same_bool}
 
 abbrev Ours : Type 0
@@ -34,10 +35,6 @@ get_other (y ∷ xs) zero zero x n = absurd (n refl)
 get_other (y ∷ xs) zero (suc j) x n = refl
 get_other (y ∷ xs) (suc i) zero x n = refl
 get_other (y ∷ xs) (suc i) (suc j) x n = get_other xs i j x (λ e. n (ap suc e))
-
-length_one : {X : Type 0} (xs : List X) (x : X) → length (xs ++ x ∷ []) ≡ suc (length xs)
-length_one [] x = refl
-length_one (y ∷ xs) x = ap suc (length_one xs x)
 
 set_length : {X : Type 0} (xs : List X) (i : ℕ) (x : X) → length (set xs i x) ≡ length xs
 set_length [] i x = refl

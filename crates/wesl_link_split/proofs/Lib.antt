@@ -8,3 +8,4 @@ pub mod Orders
 pub mod Unsplit
 pub mod Once
 pub mod Asked
+pub mod Anywhere

@@ -8,6 +8,10 @@ taken_all [] (suc n) b = refl
 taken_all (x ∷ xs) zero b = absurd (omega arith)
 taken_all (x ∷ xs) (suc n) b = ap (λ l. x ∷ l) (taken_all xs n (omega arith))
 
+pub length_one : {X : Type 0} (xs : List X) (x : X) → length (xs ++ x ∷ []) ≡ suc (length xs)
+length_one [] x = refl
+length_one (y ∷ xs) x = ap suc (length_one xs x)
+
 pub take_one : {X : Type 0} (xs : List X) (i : ℕ) (d : X) → i < length xs → take (i + 1) xs ≡ take i xs ++ get_or xs i d ∷ []
 take_one [] i d h = absurd (omega (arith, h))
 take_one (x ∷ xs) zero d h = refl

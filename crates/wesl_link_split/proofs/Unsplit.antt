@@ -53,7 +53,7 @@ filter_some {X} p (x ∷ xs) = by (p x) (filter_some p xs)
     by true h = ((λ e. absurd (let z : ⊥ = cc in z)), (λ y ys e. refl))
     by false h = h
 
-and_false : (a : Bool) → (a && false) ≡ false
+pub and_false : (a : Bool) → (a && false) ≡ false
 and_false true = refl
 and_false false = refl
 
@@ -175,7 +175,7 @@ module _ (s : Scope PathId NameId) (n : NameId) (one : split.is_split ids s.bind
   abbrev is_import : Ours → Bool
   is_import b = not b.declares
 
-  seen_anywhere : split.seen ids s n here ≡ split.of_name ids n s.binders
+  pub seen_anywhere : split.seen ids s n here ≡ split.of_name ids n s.binders
   seen_anywhere =
       filter_all (λ b. split.sees ids s here (split.place_at ids s n b.stands)) (split.of_name ids n s.binders)
       (λ b. ap (λ x. split.sees ids s here (if x then b.stands else Always)) one)

@@ -1,9 +1,10 @@
 -- The binders of a module by numbers, as the code keeps them.
-use Rattle.std.specs.Prelude.{◌≡◌, ◌≤◌, ◌==◌, ◌&&◌, ◌++◌, ℕ, Bool, true, not, false, if◌then◌else◌, nat_lt, Option, List, [], ◌∷◌, Some, Contains, length, map, slice_get, take}
+use Rattle.std.specs.Prelude.{◌≡◌, ◌≤◌, ◌==◌, ◌&&◌, ◌++◌, ℕ, Bool, true, not, false, if◌then◌else◌, nat_lt, Option, List, [], ◌∷◌, None, Some, Contains, length, map, slice_get, take}
 use Rattle.std.specs.Bool.{beq}
 use Rattle.std.specs.Global.{Vec}
 use Rattle.std.specs.List.{filter, list_any}
 use Rattle.wesl_cond_choices.specs.Places.{same_place}
+use Rattle.wesl_cond_choices.specs.declared.place.Place.TheVariants.{Always}
 use Rattle.wesl_link_symbols.specs.declared.ids.PathId.{PathId}
 use Rattle.wesl_tree_base.specs.declared.ids.NameId.{NameId}
 use Rattle.wesl_link_symbols.specs.declared.symbols.Reference.{Reference}
@@ -52,6 +53,15 @@ IsStart (starts.One b) bs = (split.has_two_targets ids bs ≡ false) × (take 1 
 -- this alone, if it is kept
 abbrev pub one_if : {X : Type 0} → Bool → X → List X
 one_if is_kept x = if is_kept then x ∷ [] else []
+
+-- the one that there is
+abbrev pub one_of : {X : Type 0} → Option X → List X
+one_of None = []
+one_of (Some x) = x ∷ []
+
+-- what a binder aims at that asks from nowhere in its module
+abbrev pub aim_elsewhere : Binder PathId NameId → Aim
+aim_elsewhere b = record { reference = record { path = b.path; name = b.item; from = Always }; order = 2 }
 
 -- the binder `c` finds what `b` does, and may ask for both
 abbrev pub asks_for : Binder PathId NameId → split.Finding PathId NameId → Binder PathId NameId → split.Finding PathId NameId → Bool

@@ -1,14 +1,16 @@
 -- The binders of a module by numbers, as the code holds them, and what they aim at.
-use Rattle.std.specs.Prelude.{◌≡◌, true, List, [], ◌∷◌, Contains, map, if◌then◌else◌}
+use Rattle.std.specs.Prelude.{◌≡◌, ℕ, true, false, List, [], ◌∷◌, Contains, Some, map, slice_get, if◌then◌else◌}
 use Rattle.std.specs.Global.{Vec}
+use Rattle.wesl_cond_choices.specs.declared.place.Place.{Place}
 use Rattle.wesl_cond_choices.specs.declared.place.Place.TheVariants.{Always}
 use Rattle.wesl_link_symbols.specs.declared.ids.PathId.{PathId}
 use Rattle.wesl_tree_base.specs.declared.ids.NameId.{NameId}
 use Rattle.wesl_link_symbols.specs.declared.symbols.Reference.{Reference}
-use Rattle.wesl_link_split.specs.Grouped.{ids, has_declaration}
+use Rattle.wesl_link_split.specs.Grouped.{ids, has_declaration, one_of}
 use Rattle.wesl_link_split.specs.Split as split
 use Rattle.wesl_link_split.specs.Split.{Binder}
 use Rattle.wesl_link_split.specs.declared.binders.Aim.{Aim}
+use Rattle.wesl_link_split.specs.declared.binders.Answered.{Answered}
 use Rattle.wesl_link_split.specs.declared.sight.Sight.{Sight}
 
 -- the module that this stands for
@@ -33,3 +35,13 @@ IsGroup s bs = (b : Binder PathId NameId) → Contains bs b → bs ≡ split.of_
 abbrev pub AreAims : Sight → List (Vec Aim) → Type 0
 AreAims s aims =
     split.has_split ids (sight_view s).binders ≡ true → map (λ v. v.items) aims ≡ map (λ g. map (aim_in (sight_view s)) g.items) s.groups.items
+
+-- the name asks for this, from wherever it is used
+abbrev pub IsAnswered : split.Scope PathId NameId → NameId → Answered → Type 0
+IsAnswered s n a =
+    (here : Place) → (a.is_unclear ≡ split.is_unclear_plain ids s n here) × (one_of a.asked ≡ (if a.is_unclear then [] else split.asked_plain ids s n here))
+
+-- of each bound name with one target what it asks for
+abbrev pub AreAnswers : Sight → List Answered → Type 0
+AreAnswers s answers =
+    (i : ℕ) (n : NameId) (a : Answered) → slice_get s.names.keys i ≡ Some n → slice_get answers i ≡ Some a → split.is_split ids (sight_view s).binders n ≡ false → IsAnswered (sight_view s) n a

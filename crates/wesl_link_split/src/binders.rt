@@ -1,5 +1,5 @@
 //! The binders of a module, by the numbers of paths and names, and how an import finds what it aims at.
-ghost use Rattle.std.specs.Prelude.{◌≡◌, ◌++◌, ◌∷◌, [], ⊤, nat_lt, not, map, if◌then◌else◌, OnOk};
+ghost use Rattle.std.specs.Prelude.{◌≡◌, ◌++◌, ◌∷◌, [], ⊤, nat_lt, not, map, slice_get, if◌then◌else◌, IfOk, OnOk};
 ghost use Rattle.std.specs.List.{list_any};
 ghost use Rattle.wesl_cond_choices.specs.declared.place.Place.TheVariants as places;
 ghost use Rattle.wesl_link_split.specs.Grouped as grouped;
@@ -241,6 +241,62 @@ impl Clone for Aim {
 
     fn clone(&self) -> Result<Aim, AllocError> {
         Ok(*self)
+    }
+}
+
+/// What a name without a path asks for, from wherever it is used.
+#[derive(Copy, Drop)]
+pub(crate) struct Answered {
+    /// Whether it stands for two things.
+    pub(crate) is_unclear: bool,
+    /// What it asks for, if it stands for one thing and a binder of it is there.
+    pub(crate) asked: Option<Reference<PathId, NameId>>,
+}
+
+// By hand, since a derived copy asks each part for one, which may be refused.
+impl Clone for Answered {
+    ghost is_clone = { λ old new. new ≡ old };
+
+    ghost is_infallible = { λ _. ⊤ };
+
+    fn clone(&self) -> Result<Answered, AllocError> {
+        Ok(*self)
+    }
+}
+
+/// The first of these references, if there is one.
+pub(crate) fn first_of(
+    references: &[Reference<PathId, NameId>],
+) -> Option<Reference<PathId, NameId>>
+    ensures { result ≡ slice_get references.now 0 }
+{
+    references.first().copied()
+}
+
+/// Adds what a name asks for, and answers whether it stands for two things.
+pub(crate) fn add_answer(
+    found: &mut Vec<Reference<PathId, NameId>>,
+    answer: &Answered,
+) -> Result<bool, AllocError>
+    ensures { IfOk result (λ b. (b ≡ answer.now.is_unclear) × (found.new.items ≡ found.old.items ++ grouped.one_of answer.now.asked)) }
+{
+    if let Some(reference) = answer.asked {
+        found.push(reference)?;
+    }
+    Ok(answer.is_unclear)
+}
+
+/// What a binder aims at whose target is no name of its own module with several targets.
+pub(crate) fn aim_elsewhere(binder: &Binder<PathId, NameId>) -> Aim
+    ensures { result ≡ grouped.aim_elsewhere binder.now }
+{
+    Aim {
+        reference: Reference {
+            path: binder.path,
+            name: binder.item,
+            from: Place::Always,
+        },
+        order: 2,
     }
 }
 

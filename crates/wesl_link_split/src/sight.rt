@@ -231,7 +231,7 @@ impl Sight {
         ensures { OnOk result (found.new.items ≡ split.seen ids (sight_view self.now) name from) }
     {
         let group = self.group(name);
-        let is_split = has_two_targets(group);
+        let is_split = self.is_split(name);
         for binder in group {
             let is_seen = self.sees(from, placed(is_split, binder.stands));
             keep(found, binder, is_seen)?;
@@ -259,7 +259,7 @@ impl Sight {
         ensures { OnOk result (found.new.items ≡ split.sight ids (sight_view self.now) name from) }
     {
         let group = self.group(name);
-        let is_split = has_two_targets(group);
+        let is_split = self.is_split(name);
         for binder in group {
             found.push(self.sees(from, placed(is_split, binder.stands)))?;
         }
@@ -267,7 +267,7 @@ impl Sight {
     }
 
     /// Whether a name has several targets in this very module, and the path is its own.
-    fn is_own_split(&self, path: PathId, name: NameId) -> bool
+    pub(crate) fn is_own_split(&self, path: PathId, name: NameId) -> bool
         ensures { result ≡ split.is_own_split ids (sight_view self.now) path name }
     {
         path == self.own && self.is_split(name)
@@ -449,7 +449,7 @@ impl Sight {
         ensures { OnOk result (found.new.items ≡ split.seen_imports ids (sight_view self.now) name here) }
     {
         let group = self.group(name);
-        let is_split = has_two_targets(group);
+        let is_split = self.is_split(name);
         for binder in group {
             let is_seen = self.sees(here, placed(is_split, binder.stands));
             keep(found, binder, is_seen && !binder.declares)?;

@@ -1,13 +1,14 @@
 //! Names with several targets in one module, and what its names ask for, by numbers (WESL, "Imports" and
 //! "ConditionalTranslation").
-ghost use Rattle.std.specs.Prelude.{◌≡◌, ◌++◌, [], true, map, take, IfOk, IfSome, OnOk};
+ghost use Rattle.std.specs.Prelude.{◌≡◌, ◌++◌, ℕ, [], true, false, map, slice_get, take, IfOk, IfSome, OnOk, Some};
 ghost use Rattle.wesl_link_split.specs.Grouped.{ids, IsStart, AddsUnless};
-ghost use Rattle.wesl_link_split.specs.SightView.{aim_in, sight_view, AreAims};
+ghost use Rattle.wesl_link_split.specs.SightView.{aim_in, sight_view, AreAims, AreAnswers, IsAnswered};
 ghost use Rattle.wesl_link_split.specs.Split as split;
+ghost use Rattle.wesl_tree_base.specs.declared.ids.NameId.{NameId};
 
 use crate::binders::{
-    Aim, Binder, Start, add_asked, are_unlike, binder_of, has_declaration, has_two_targets,
-    is_same_binder, keep_aim, placed,
+    Aim, Answered, Binder, Start, add_answer, add_asked, aim_elsewhere, are_unlike, binder_of,
+    first_of, has_declaration, has_two_targets, is_same_binder, keep_aim, placed,
 };
 use crate::sight::Sight;
 use std::alloc::{AllocError, Global};
@@ -36,7 +37,10 @@ pub struct Scope {
     pub(crate) sight: Sight,
     // Of each bound name what its binders aim at, where some name of the module has several targets.
     aims: Vec<Vec<Aim>>,
+    // Of each bound name what it asks for, which counts where it has one target and some other name has several.
+    answers: Vec<Answered>,
     pub ghost aims_are: { AreAims sight aims.items },
+    pub ghost answers_are: { AreAnswers sight answers.items },
 }
 
 impl Scope {
@@ -50,14 +54,42 @@ impl Scope {
         let sight = sight.with_alive(alive);
         let mut aims = Vec::new(alloc);
         sight.add_all_aims(alloc, &mut aims)?;
-        Ok(Scope { sight, aims })
+        let answers = Vec::new(alloc);
+        let scope = Scope {
+            sight,
+            aims,
+            answers,
+        };
+        let answers = scope.answers(alloc)?;
+        Ok(scope.with_answers(answers))
+    }
+
+    /// The same module, with what its names ask for.
+    fn with_answers(self, answers: Vec<Answered>) -> Scope
+        requires { AreAnswers self.sight answers.items }
+        ensures { scope_view result ≡ scope_view self }
+    {
+        let Scope {
+            sight,
+            aims,
+            answers: _,
+        } = self;
+        Scope {
+            sight,
+            aims,
+            answers,
+        }
     }
 
     /// What some choice of flags keeps together.
     pub fn into_alive(self) -> Alive
         ensures { result ≡ (scope_view self).alive }
     {
-        let Scope { sight, aims: _ } = self;
+        let Scope {
+            sight,
+            aims: _,
+            answers: _,
+        } = self;
         sight.into_alive()
     }
 
@@ -190,6 +222,95 @@ impl Scope {
         Ok(false)
     }
 
+    /// What a name asks for, from wherever it is used, where it has one target.
+    fn answer(&self, alloc: Global, name: NameId) -> Result<Answered, AllocError>
+        requires { split.has_split ids (scope_view self.now).binders ≡ true }
+        ensures { IfOk result (λ a. split.is_split ids (scope_view self.now).binders name ≡ false → IsAnswered (scope_view self.now) name a) }
+    {
+        let mut found = Vec::new(alloc);
+        let is_unclear = self.add_split(alloc, &mut found, name, Place::Always)?;
+        Ok(Answered {
+            is_unclear,
+            asked: first_of(&found),
+        })
+    }
+
+    /// What the name with this index asks for.
+    fn answer_at(&self, alloc: Global, index: usize) -> Result<Answered, AllocError>
+        requires { split.has_split ids (scope_view self.now).binders ≡ true }
+        ensures { IfOk result (λ a. (n : NameId) → slice_get self.now.sight.names.keys index ≡ Some n → split.is_split ids (scope_view self.now).binders n ≡ false → IsAnswered (scope_view self.now) n a) }
+    {
+        match self.sight.names.get_index(index) {
+            Some(name) => self.answer(alloc, *name),
+            None => Ok(Answered {
+                is_unclear: false,
+                asked: None,
+            }),
+        }
+    }
+
+    /// Adds what each name asks for.
+    fn add_answers(&self, alloc: Global, answers: &mut Vec<Answered>) -> Result<(), AllocError>
+        requires split { split.has_split ids (scope_view self.now).binders ≡ true }
+        requires empty { answers.old.items ≡ [] }
+        ensures { OnOk result (AreAnswers self.now.sight answers.new.items) }
+    {
+        for i in 0..self.sight.names.len() {
+            let answer = self.answer_at(alloc, i)?;
+            answers.push(answer)?;
+        }
+        Ok(())
+    }
+
+    /// What each name asks for, where some name of the module has several targets.
+    fn answers(&self, alloc: Global) -> Result<Vec<Answered>, AllocError>
+        ensures { IfOk result (λ v. AreAnswers self.now.sight v.items) }
+    {
+        let mut answers = Vec::new(alloc);
+        if !self.sight.has_split() {
+            return Ok(answers);
+        }
+        self.add_answers(alloc, &mut answers)?;
+        Ok(answers)
+    }
+
+    /// What is kept of the name with this index.
+    fn held_answer(&self, index: usize) -> Option<Answered>
+        ensures { result ≡ slice_get self.now.answers.items index }
+    {
+        self.answers.get(index).copied()
+    }
+
+    /// What a name asks for, from wherever it is used, where it has one target.
+    fn answer_of(&self, name: NameId) -> Option<Answered>
+        ensures { IfSome result (λ a. IsAnswered (scope_view self.now) name a) }
+    {
+        if self.sight.is_split(name) {
+            return None;
+        }
+        match self.sight.names.get_index_of(&name) {
+            Some(index) => self.held_answer(index),
+            None => None,
+        }
+    }
+
+    /// Adds what a name without a path asks for that is used at `here`, where some name of the module has several targets.
+    fn add_answered(
+        &self,
+        alloc: Global,
+        found: &mut Vec<Reference<PathId, NameId>>,
+        name: NameId,
+        here: Place,
+    ) -> Result<bool, AllocError>
+        requires { split.has_split ids (scope_view self.now).binders ≡ true }
+        ensures { IfOk result (λ b. AddsUnless b (split.is_unclear_plain ids (scope_view self.now) name here) found.old.items found.new.items (split.asked_plain ids (scope_view self.now) name here)) }
+    {
+        match self.answer_of(name) {
+            Some(answer) => add_answer(found, &answer),
+            None => self.add_split(alloc, found, name, here),
+        }
+    }
+
     /// Adds what a name without a path asks for that is used at `here`, unless it stands for two things there; and answers
     /// whether it does. Refused for want of memory alone.
     pub fn add_plain(
@@ -202,7 +323,7 @@ impl Scope {
         ensures { IfOk result (λ b. AddsUnless b (split.is_unclear_plain ids (scope_view self.now) name here) found.old.items found.new.items (split.asked_plain ids (scope_view self.now) name here)) }
     {
         if self.sight.has_split() {
-            return self.add_split(alloc, found, name, here);
+            return self.add_answered(alloc, found, name, here);
         }
         self.sight.add_whole(found, name)?;
         Ok(false)
@@ -227,14 +348,24 @@ impl Scope {
         None
     }
 
-    /// What a binder aims at.
-    fn aim(&self, alloc: Global, binder: &Binder<PathId, NameId>) -> Result<Aim, AllocError>
+    /// What a binder aims at whose target has several targets in this module.
+    fn own_aim(&self, alloc: Global, binder: &Binder<PathId, NameId>) -> Result<Aim, AllocError>
         ensures { IfOk result (λ a. a ≡ aim_in (scope_view self.now) binder.now) }
     {
         match self.held_aim(binder) {
             Some(aim) => Ok(aim),
             None => self.sight.aim_of(alloc, binder),
         }
+    }
+
+    /// What a binder aims at.
+    fn aim(&self, alloc: Global, binder: &Binder<PathId, NameId>) -> Result<Aim, AllocError>
+        ensures { IfOk result (λ a. a ≡ aim_in (scope_view self.now) binder.now) }
+    {
+        if self.sight.is_own_split(binder.path, binder.item) {
+            return self.own_aim(alloc, binder);
+        }
+        Ok(aim_elsewhere(binder))
     }
 
     /// An import of the module with where it stands, where it asks from and what it finds there. Refused for want of memory

@@ -16,9 +16,9 @@ returns c =
     let s = sight_view c.args.self.now in
     let bs : List (Binder PathId NameId) = c.group-group.result.now in
     let seen : Bool → Binder PathId NameId → Bool = λ x b. sees ids s c.args.here (if x then b.stands else Always) in
-    let x : Bool = c.has_two_targets-is_split.result in
+    let x : Bool = c.is_split-is_split.result in
     c.loop-binder.invariant
     ∙ (ap (flat_map (λ b. one_if (seen x b && not b.declares) b)) (taken_all bs c.loop-binder.binder-index c.loop-binder-test.false)
     ∙ (filter_flat (λ b. seen x b && not b.declares) bs
-    ∙ (ap₂ (λ y ds. filter (λ b. seen y b && not b.declares) ds) (c.has_two_targets-is_split.ensures ∙ ap (has_two_targets ids) c.group-group.ensures) c.group-group.ensures
+    ∙ (ap₂ (λ y ds. filter (λ b. seen y b && not b.declares) ds) c.is_split-is_split.ensures c.group-group.ensures
     ∙ filter_twice (seen (has_two_targets ids (of_name ids c.args.name s.binders))) (λ b. not b.declares) (of_name ids c.args.name s.binders))))
