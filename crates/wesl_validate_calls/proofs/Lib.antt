@@ -1,12 +1,13 @@
 pub mod Adding
+pub mod Ending
 pub mod Gathering
 pub mod Judging
 pub mod Marked
 pub mod Members
 pub mod Misfitting
 pub mod Plain
-pub mod Reaching
 pub mod Searching
 pub mod Shaping
 pub mod Tabling
+pub mod Taking
 pub mod Telling

@@ -1,7 +1,6 @@
 -- Searches through a list by an index.
 use Rattle.std.proofs.Common.{◌≡◌, ◌⊎◌, inl, inr, ◌+◌, ◌<◌, ◌≤◌, ◌||◌, ℕ, zero, suc, Bool, true, false, List, [], ◌∷◌, length, drop, get_or, Some, None, refl, sym, ap, ◌∙◌, subst, arith, add-one, Option}
 use Rattle.std.specs.List.{Contains, list_any}
-use Rattle.std.specs.List.Sorted.{IsNonDecreasing}
 use Rattle.std.specs.Option.{option_or}
 use Rattle.std.proofs.lemmas.List.{drop_all}
 use Rattle.wesl_validate_calls.specs.Judged.{first_some}
@@ -73,29 +72,6 @@ module _ {Y : Type 0} (f : ℕ → Option Y) where
 pub same_first : {Y : Type 0} (f g : ℕ → Option Y) → ((x : ℕ) → f x ≡ g x) → (xs : List ℕ) → first_some f xs ≡ first_some g xs
 same_first f g same [] = refl
 same_first f g same (x ∷ xs) = ap (λ o. option_or o (first_some f xs)) (same x) ∙ ap (option_or (g x)) (same_first f g same xs)
-
--- where numbers ascend, the first is the least
-module _ (x : ℕ) (xs : List ℕ) (up : IsNonDecreasing (x ∷ xs)) where
-  still_up : IsNonDecreasing xs
-  still_up i j d l h = up (suc i) (suc j) d (omega (arith, l)) (omega (arith, h))
-
-  least : (y : ℕ) → Contains (x ∷ xs) y → x ≤ y
-  least y c = subst (λ z. x ≤ z) c.2 (up 0 c.0 y (omega arith) c.1)
-
-pub first_least : {Y : Type 0} (f : ℕ → Option Y) (xs : List ℕ) (y : Y) → IsNonDecreasing xs → first_some f xs ≡ Some y → (x : ℕ) × Contains xs x × (f x ≡ Some y) × ((z : ℕ) → z < x → Contains xs z → f z ≡ None)
-first_least f [] y up e = absurd (let g : None ≡ Some y = e in cc)
-first_least {Y} f (x ∷ xs) y up e = by (f x) refl e (first_least f xs y (still_up x xs up))
-  where
-    Found : List ℕ → Type 0
-    Found ys = (v : ℕ) × Contains ys v × (f v ≡ Some y) × ((z : ℕ) → z < v → Contains ys z → f z ≡ None)
-
-    below : (v : ℕ) → f x ≡ None → ((z : ℕ) → z < v → Contains xs z → f z ≡ None) → (z : ℕ) → z < v → (x ≡ z) ⊎ Contains xs z → f z ≡ None
-    below v q less z l (inl i) = subst (λ w. f w ≡ None) i q
-    below v q less z l (inr d) = less z l d
-
-    by : (o : Option Y) → f x ≡ o → option_or o (first_some f xs) ≡ Some y → (first_some f xs ≡ Some y → Found xs) → Found (x ∷ xs)
-    by (Some v) q h r = (x, contains_here x xs, q ∙ h, λ z l c. let m = least x xs up z c in absurd (omega (arith, l, m)))
-    by None q h r = let s = r h in (s.0, contains_later x s.0 xs s.1, s.2, λ z l c. below s.0 q s.3 z l (contains_cases x z xs c))
 
 -- ---- a loop over a list, which it reads as another that is equal
 

@@ -1,9 +1,9 @@
 pub mod CallFaults
+pub mod Ends
 pub mod Found
 pub mod Judged
 pub mod Made
 pub mod Misfits
-pub mod Reached
 pub mod Tables
 pub mod Verdicts
 pub mod Views

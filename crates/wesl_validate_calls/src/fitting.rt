@@ -9,44 +9,24 @@ ghost use Rattle.wesl_scope_strip.specs.Declarations.{all};
 ghost use Rattle.wesl_validate_builtins.specs.Builtins.{builtins_view};
 ghost use Rattle.wesl_validate_rules.specs.Calls.{calls_in};
 ghost use Rattle.wesl_validate_rules.specs.Valid.{IsFitting};
+ghost use Rattle.wesl_validate_calls.specs.Ends.{AreEnds};
 ghost use Rattle.wesl_validate_calls.specs.Made.{call_told};
-ghost use Rattle.wesl_validate_calls.specs.Misfits.{Misses, Passes, MissesIn, MissesAmong};
-ghost use Rattle.wesl_validate_calls.specs.Reached.{IsClear};
+ghost use Rattle.wesl_validate_calls.specs.Misfits.{Passes, MissesIn, MissesAmong};
 ghost use Rattle.wesl_validate_calls.specs.Tables.{AreTables};
-ghost use Rattle.wesl_validate_calls.specs.Views.{tables_view};
+ghost use Rattle.wesl_validate_calls.specs.Views.{ends_view, tables_view};
 
 use crate::callables::Callables;
 use crate::calls::{Call, calls_of};
-use crate::judge::judged;
+use crate::ends::Ends;
 use crate::misfit::Misfit;
-use crate::reach::reached;
 use crate::tables::{Tables, tables_of};
-use std::alloc::{AllocError, Global};
+use crate::whole::{ends_in, verdict};
+use std::alloc::Global;
 use wesl_scope_occurrences::Identifiers;
 use wesl_tree::TranslationUnit;
 use wesl_tree_names::Error;
 use wesl_tree_syntax::GlobalDeclaration;
 use wesl_validate_builtins::Builtins;
-
-/// What is wrong with a call, if it fits nothing of what its aliases end in. `marks` are those of `reached`.
-fn call_misfit(
-    alloc: Global,
-    unit: &TranslationUnit,
-    callables: &Callables<'_>,
-    tables: &Tables,
-    marks: &mut [bool],
-    call: Call,
-) -> Result<Option<Misfit>, AllocError>
-    requires tables { AreTables (unit_view unit.now) (tables_view tables.now) }
-    requires clear { IsClear (tables_view tables.now).aliases marks.old }
-    ensures misfit { IfOk result (λ r. IfSome r (Misses (unit_view unit.now) (builtins_view callables.now.builtins.now) (call_told call))) }
-    ensures none { IfOk result (λ r. IfNone r (Passes (unit_view unit.now) (builtins_view callables.now.builtins.now) (call_told call))) }
-    ensures clear { IfOk result (λ _. IsClear (tables_view tables.now).aliases marks.new) }
-{
-    let numbers = reached(alloc, &tables.aliases, marks, call.callee)?;
-    let misfit = judged(tables, unit.names(), callables, call.arguments, &numbers);
-    Ok(misfit)
-}
 
 /// The call at a place of the list.
 #[tactic(auto, using(crate::proofs::Shaping::at_itself))]
@@ -58,27 +38,25 @@ pub(crate) fn call_at(calls: &Vec<Call>, place: usize) -> Call
 }
 
 fn misfit_among(
-    alloc: Global,
     unit: &TranslationUnit,
     callables: &Callables<'_>,
     tables: &Tables,
-    marks: &mut [bool],
+    ends: &Ends,
     calls: &Vec<Call>,
-) -> Result<Option<Misfit>, AllocError>
+) -> Option<Misfit>
     requires tables { AreTables (unit_view unit.now) (tables_view tables.now) }
-    requires clear { IsClear (tables_view tables.now).aliases marks.old }
-    ensures misfit { IfOk result (λ r. IfSome r (MissesAmong (unit_view unit.now) (builtins_view callables.now.builtins.now) (map call_told calls.now.items))) }
-    ensures none { IfOk result (λ r. IfNone r (All (Passes (unit_view unit.now) (builtins_view callables.now.builtins.now)) (map call_told calls.now.items))) }
-    ensures clear { IfOk result (λ _. IsClear (tables_view tables.now).aliases marks.new) }
+    requires ends { AreEnds (tables_view tables.now) (unit_view unit.now).names (builtins_view callables.now.builtins.now) (ends_view ends.now) }
+    ensures misfit { IfSome result (MissesAmong (unit_view unit.now) (builtins_view callables.now.builtins.now) (map call_told calls.now.items)) }
+    ensures none { IfNone result (All (Passes (unit_view unit.now) (builtins_view callables.now.builtins.now)) (map call_told calls.now.items)) }
 {
     for place in 0..calls.len() {
         let call = call_at(calls, place);
-        match call_misfit(alloc, unit, callables, tables, marks, call)? {
-            Some(misfit) => return Ok(Some(misfit)),
+        match verdict(unit, callables, tables, ends, call) {
+            Some(misfit) => return Some(misfit),
             None => {}
         }
     }
-    Ok(None)
+    None
 }
 
 fn misfit_in(
@@ -86,18 +64,17 @@ fn misfit_in(
     unit: &TranslationUnit,
     callables: &Callables<'_>,
     tables: &Tables,
-    marks: &mut [bool],
+    ends: &Ends,
     declaration: &GlobalDeclaration,
 ) -> Result<Option<Misfit>, Error>
     requires tables { AreTables (unit_view unit.now) (tables_view tables.now) }
-    requires clear { IsClear (tables_view tables.now).aliases marks.old }
+    requires ends { AreEnds (tables_view tables.now) (unit_view unit.now).names (builtins_view callables.now.builtins.now) (ends_view ends.now) }
     ensures misfit { IfOk result (λ r. IfSome r (MissesAmong (unit_view unit.now) (builtins_view callables.now.builtins.now) (calls_in (before (global_view declaration.now) end)))) }
     ensures none { IfOk result (λ r. IfNone r (All (Passes (unit_view unit.now) (builtins_view callables.now.builtins.now)) (calls_in (before (global_view declaration.now) end)))) }
-    ensures clear { IfOk result (λ _. IsClear (tables_view tables.now).aliases marks.new) }
     ensures refused { IfErr result (λ e. e ≡ error.Memory) }
 {
     let calls = calls_of(alloc, declaration)?;
-    Ok(misfit_among(alloc, unit, callables, tables, marks, &calls)?)
+    Ok(misfit_among(unit, callables, tables, ends, &calls))
 }
 
 /// The same, in all declarations.
@@ -106,10 +83,10 @@ fn misfit_of(
     unit: &TranslationUnit,
     callables: &Callables<'_>,
     tables: &Tables,
-    marks: &mut [bool],
+    ends: &Ends,
 ) -> Result<Option<(usize, Misfit)>, Error>
     requires tables { AreTables (unit_view unit.now) (tables_view tables.now) }
-    requires clear { IsClear (tables_view tables.now).aliases marks.old }
+    requires ends { AreEnds (tables_view tables.now) (unit_view unit.now).names (builtins_view callables.now.builtins.now) (ends_view ends.now) }
     ensures misfit { IfOk result (λ r. IfSome r (λ p. MissesIn (unit_view unit.now) (builtins_view callables.now.builtins.now) p.0 p.1)) }
     ensures none { IfOk result (λ r. IfNone r (IsFitting (unit_view unit.now) (builtins_view callables.now.builtins.now))) }
     ensures refused { IfErr result (λ e. e ≡ error.Memory) }
@@ -117,7 +94,7 @@ fn misfit_of(
     let declarations = unit.global_declarations();
     for j in 0..declarations.len() {
         let declaration = &declarations[j];
-        match misfit_in(alloc, unit, callables, tables, marks, &declaration.node)? {
+        match misfit_in(alloc, unit, callables, tables, ends, &declaration.node)? {
             Some(misfit) => return Ok(Some((j, misfit))),
             None => {}
         }
@@ -128,8 +105,8 @@ fn misfit_of(
 /// The first call that fits nothing of what its aliases end in: the number of the declaration that holds it, and what
 /// is wrong with it. None where each call fits whose aliases end anywhere.
 ///
-/// `found` are the identifiers of the unit. It goes over the calls and their aliases once. Refused for want of memory
-/// alone.
+/// `found` are the identifiers of the unit. It goes over the calls once, and over the aliases once for each count of arguments
+/// that they lead to. Refused for want of memory alone.
 pub fn first_misfit(
     alloc: Global,
     unit: &TranslationUnit,
@@ -143,6 +120,6 @@ pub fn first_misfit(
 {
     let callables = Callables::new(alloc, builtins)?;
     let tables = tables_of(alloc, unit, found)?;
-    let mut marks = vec![in alloc; false; tables.aliases.len()]?;
-    misfit_of(alloc, unit, &callables, &tables, &mut marks)
+    let ends = ends_in(alloc, unit, &callables, &tables)?;
+    misfit_of(alloc, unit, &callables, &tables, &ends)
 }

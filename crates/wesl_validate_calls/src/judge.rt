@@ -1,18 +1,27 @@
-//! Whether a call fits one of the numbers in which its aliases end.
-ghost use Rattle.std.specs.Prelude.{◌≡◌, map, not};
+//! Whether a call fits one of the numbers to which its aliases lead.
+ghost use Rattle.std.specs.Prelude.{◌≡◌, ◌==◌, ◌↔◌, map, not, true};
+ghost use Rattle.std.specs.Option.{option_map};
+ghost use Rattle.wesl_scope_values.specs.Values.{value_at};
+ghost use Rattle.wesl_validate_calls.specs.declared.misfit.Misfit.TheVariants as misfit;
 ghost use Rattle.std.specs.List.{list_any};
 ghost use Rattle.wesl_validate_builtins.specs.Builtins.{builtins_view};
 ghost use Rattle.wesl_scope_strip.specs.Marks.{mark_at};
 ghost use Rattle.wesl_tree_syntax.specs.Unit.{name_in};
-ghost use Rattle.wesl_validate_rules.specs.Calls.{takes, is_plain_alias};
-ghost use Rattle.wesl_validate_calls.specs.Judged.{first_some, takes_at, count_at, ends_at, miscounted_at, not_callable_at, accepts_at, judged, count_of};
+ghost use Rattle.wesl_validate_rules.specs.Calls.{is_plain_alias};
+ghost use Rattle.wesl_validate_rules.specs.Graphs.{graph_view, edges_at, IsClosed};
+ghost use Rattle.wesl_validate_calls.specs.Ends.{AreEnded, AreEnds, FitsAt, IsJudged, IsLeastEnd, is_builtin_at, is_found};
+ghost use Rattle.wesl_validate_calls.specs.Made.{call_told};
+ghost use Rattle.wesl_validate_calls.specs.Judged.{first_some, count_at, ends_at, count_of};
 ghost use Rattle.wesl_validate_calls.specs.Tables.{shape_at};
-ghost use Rattle.wesl_validate_calls.specs.Views.{shape_view, tables_view};
+ghost use Rattle.wesl_validate_calls.specs.Views.{ends_view, shape_view, tables_view};
 
 use crate::callables::Callables;
+use crate::calls::Call;
+use crate::ends::Ends;
 use crate::misfit::Misfit;
-use crate::shape::{Shape, count_of, is_plain_alias, shape_at, takes};
+use crate::shape::{Shape, count_of, is_plain_alias, shape_at};
 use crate::tables::Tables;
+use wesl_scope_values::value_of;
 use wesl_tree_names::{Ident, Names};
 
 /// The name of a number, and the empty text where the table has none.
@@ -33,26 +42,16 @@ fn is_bound(bound: &Vec<bool>, number: usize) -> bool
     number < bound.len() && bound[number]
 }
 
-/// Whether one of these declarations takes so many arguments.
-#[tactic(auto, using(crate::proofs::Searching::any_here, crate::proofs::Searching::any_next))]
-fn one_takes(shapes: &Vec<Shape>, declarers: &Vec<usize>, arguments: usize) -> bool
-    ensures { result ≡ list_any (λ j. takes arguments (shape_at (map shape_view shapes.now.items) j)) declarers.now.items }
+/// Whether no binder has the number, and its name is that of a function or a constructor that is built in.
+pub(crate) fn is_builtin(
+    tables: &Tables,
+    names: &Names,
+    callables: &Callables<'_>,
+    number: usize,
+) -> bool
+    ensures { result ≡ is_builtin_at (tables_view tables.now) names.now (builtins_view callables.now.builtins.now) number }
 {
-    for declaration in declarers {
-        if takes(shape_at(shapes, *declaration), arguments) {
-            return true;
-        }
-    }
-    false
-}
-
-fn takes_at(tables: &Tables, arguments: usize, number: usize) -> bool
-    ensures { result ≡ takes_at (tables_view tables.now) arguments number }
-{
-    match tables.declarers.get(number) {
-        None => false,
-        Some(declarers) => one_takes(&tables.shapes, declarers, arguments),
-    }
+    !is_bound(&tables.bound, number) && callables.has(name_of(names, number))
 }
 
 /// How many arguments the first of these declarations takes that is a function or a structure.
@@ -69,7 +68,7 @@ fn first_count(shapes: &Vec<Shape>, declarers: &Vec<usize>) -> Option<usize>
     None
 }
 
-fn count_at(tables: &Tables, number: usize) -> Option<usize>
+pub(crate) fn count_at(tables: &Tables, number: usize) -> Option<usize>
     ensures { result ≡ count_at (tables_view tables.now) number }
 {
     match tables.declarers.get(number) {
@@ -92,7 +91,7 @@ fn one_ends(shapes: &Vec<Shape>, declarers: &Vec<usize>) -> bool
 }
 
 /// Whether aliases end at a number: it has no declaration, or one that is no alias of a plain name.
-fn ends_at(tables: &Tables, number: usize) -> bool
+pub(crate) fn ends_at(tables: &Tables, number: usize) -> bool
     ensures { result ≡ ends_at (tables_view tables.now) number }
 {
     match tables.declarers.get(number) {
@@ -101,43 +100,63 @@ fn ends_at(tables: &Tables, number: usize) -> bool
     }
 }
 
-/// Whether a number accepts so many arguments: one of its declarations does, or no binder has it and its name is built
-/// in and can be called.
-fn accepts_at(
-    tables: &Tables,
-    names: &Names,
-    callables: &Callables<'_>,
-    arguments: usize,
-    number: usize,
-) -> bool
-    ensures { result ≡ accepts_at (tables_view tables.now) names.now (builtins_view callables.now.builtins.now) arguments number }
+/// Whether a node leads to another.
+fn leads(graph: &Vec<Vec<usize>>, from: usize, to: usize) -> bool
+    ensures { result ≡ list_any (λ t. t == to) (edges_at (graph_view graph.now.items) from) }
 {
-    takes_at(tables, arguments, number)
-        || (!is_bound(&tables.bound, number) && callables.has(name_of(names, number)))
-}
-
-#[tactic(auto, using(crate::proofs::Searching::any_here, crate::proofs::Searching::any_next))]
-fn fits(
-    tables: &Tables,
-    names: &Names,
-    callables: &Callables<'_>,
-    arguments: usize,
-    numbers: &Vec<usize>,
-) -> bool
-    ensures { result ≡ list_any (accepts_at (tables_view tables.now) names.now (builtins_view callables.now.builtins.now) arguments) numbers.now.items }
-{
-    for number in numbers {
-        if accepts_at(tables, names, callables, arguments, *number) {
-            return true;
-        }
+    match graph.get(from) {
+        None => false,
+        Some(targets) => targets.contains(&to),
     }
-    false
 }
 
-fn miscounted_at(tables: &Tables, arguments: usize, number: usize) -> Option<Misfit>
-    ensures { result ≡ miscounted_at (tables_view tables.now) arguments number }
+/// Whether a call is found among what the tables say that it fits.
+fn is_found(
+    tables: &Tables,
+    ends: &Ends,
+    names: &Names,
+    callables: &Callables<'_>,
+    call: Call,
+) -> bool
+    ensures { result ≡ is_found (tables_view tables.now) names.now (builtins_view callables.now.builtins.now) (ends_view ends.now) (call_told call) }
 {
-    match count_at(tables, number) {
+    leads(&ends.taken, call.callee, call.arguments)
+        || (is_bound(&ends.any_count, call.callee)
+            || is_builtin(tables, names, callables, call.callee))
+}
+
+/// Whether the aliases of a call lead to what accepts so many arguments: a declaration takes them, or what is built in and
+/// can be called.
+fn fits(tables: &Tables, ends: &Ends, names: &Names, callables: &Callables<'_>, call: Call) -> bool
+    requires closed { IsClosed (tables_view tables.now).aliases }
+    requires ends { AreEnds (tables_view tables.now) names.now (builtins_view callables.now.builtins.now) (ends_view ends.now) }
+    ensures { (result ≡ true) ↔ FitsAt (tables_view tables.now) names.now (builtins_view callables.now.builtins.now) (call_told call) }
+{
+    is_found(tables, ends, names, callables, call)
+}
+
+/// The least number at which the aliases of a number end, if they end anywhere.
+fn end_of(tables: &Tables, ended: &Vec<Option<usize>>, number: usize) -> Option<usize>
+    requires closed { IsClosed (tables_view tables.now).aliases }
+    requires ended { AreEnded (tables_view tables.now) ended.now.items }
+    ensures { IsLeastEnd (tables_view tables.now).aliases (ends_at (tables_view tables.now)) number result }
+{
+    let count = tables.aliases.len();
+    if number < count {
+        return value_of(ended, number);
+    }
+    if ends_at(tables, number) {
+        Some(number)
+    } else {
+        None
+    }
+}
+
+/// The misfit of a call of so many arguments that leads to a function or a structure of this number.
+fn miscounted(counts: &Vec<Option<usize>>, number: usize, arguments: usize) -> Option<Misfit>
+    ensures { result ≡ option_map (λ k. misfit.ParamCount number k arguments) (value_at counts.now.items number) }
+{
+    match value_of(counts, number) {
         None => None,
         Some(expected) => Some(Misfit::ParamCount {
             number,
@@ -147,58 +166,34 @@ fn miscounted_at(tables: &Tables, arguments: usize, number: usize) -> Option<Mis
     }
 }
 
-#[tactic(auto, using(crate::proofs::Searching::some_here, crate::proofs::Searching::some_next))]
-fn miscounted(tables: &Tables, arguments: usize, numbers: &Vec<usize>) -> Option<Misfit>
-    ensures { result ≡ first_some (miscounted_at (tables_view tables.now) arguments) numbers.now.items }
+/// The misfit of a call whose aliases end at this number, if they end anywhere.
+fn not_callable(end: Option<usize>) -> Option<Misfit>
+    ensures { result ≡ option_map (λ e. misfit.NotCallable e) end }
 {
-    for number in numbers {
-        match miscounted_at(tables, arguments, *number) {
-            Some(misfit) => return Some(misfit),
-            None => {}
-        }
-    }
-    None
-}
-
-fn not_callable_at(tables: &Tables, number: usize) -> Option<Misfit>
-    ensures { result ≡ not_callable_at (tables_view tables.now) number }
-{
-    if ends_at(tables, number) {
-        Some(Misfit::NotCallable { number })
-    } else {
-        None
+    match end {
+        None => None,
+        Some(number) => Some(Misfit::NotCallable { number }),
     }
 }
 
-#[tactic(auto, using(crate::proofs::Searching::some_here, crate::proofs::Searching::some_next))]
-fn not_callable(tables: &Tables, numbers: &Vec<usize>) -> Option<Misfit>
-    ensures { result ≡ first_some (not_callable_at (tables_view tables.now)) numbers.now.items }
-{
-    for number in numbers {
-        match not_callable_at(tables, *number) {
-            Some(misfit) => return Some(misfit),
-            None => {}
-        }
-    }
-    None
-}
-
-/// Whether a call of so many arguments fits one of these numbers, in which its aliases end, and else what is wrong.
-/// Where they end nowhere, nothing is.
+/// Whether a call fits what its aliases lead to, and else what is wrong. Where they end nowhere, nothing is. It costs a
+/// look-up in each table of `ends`.
 pub(crate) fn judged(
     tables: &Tables,
+    ends: &Ends,
     names: &Names,
     callables: &Callables<'_>,
-    arguments: usize,
-    numbers: &Vec<usize>,
+    call: Call,
 ) -> Option<Misfit>
-    ensures { result ≡ judged (tables_view tables.now) names.now (builtins_view callables.now.builtins.now) arguments numbers.now.items }
+    requires closed { IsClosed (tables_view tables.now).aliases }
+    requires ends { AreEnds (tables_view tables.now) names.now (builtins_view callables.now.builtins.now) (ends_view ends.now) }
+    ensures { IsJudged (tables_view tables.now) names.now (builtins_view callables.now.builtins.now) (call_told call) result }
 {
-    if fits(tables, names, callables, arguments, numbers) {
+    if fits(tables, ends, names, callables, call) {
         return None;
     }
-    match miscounted(tables, arguments, numbers) {
-        Some(misfit) => Some(misfit),
-        None => not_callable(tables, numbers),
+    match value_of(&ends.counted, call.callee) {
+        None => not_callable(end_of(tables, &ends.ended, call.callee)),
+        Some(number) => miscounted(&ends.counts, number, call.arguments),
     }
 }

@@ -4,15 +4,16 @@
 
 mod callables;
 mod calls;
+mod ends;
 mod fault;
 mod fitting;
 mod judge;
 mod misfit;
 mod misfit_fault;
 mod numbers;
-mod reach;
 mod shape;
 mod tables;
+mod takers;
 mod told;
 mod whole;
 

@@ -2,7 +2,8 @@
 ghost use Rattle.std.specs.Prelude.{◌≡◌, map, IfOk};
 ghost use Rattle.wesl_tree_syntax.specs.Tree.{before, end};
 ghost use Rattle.wesl_tree_syntax.specs.View.{global_view, type_view};
-ghost use Rattle.wesl_validate_rules.specs.Calls.{alias_by, shape_in, takes, is_plain_alias};
+ghost use Rattle.wesl_validate_rules.specs.Calls.{alias_by, shape_in, is_plain_alias};
+ghost use Rattle.wesl_validate_calls.specs.Ends.{is_open};
 ghost use Rattle.wesl_validate_calls.specs.Judged.{count_of};
 ghost use Rattle.wesl_validate_calls.specs.Tables.{shape_at};
 ghost use Rattle.wesl_validate_calls.specs.Views.{shape_view};
@@ -77,16 +78,13 @@ pub(crate) fn shape_at(shapes: &Vec<Shape>, declaration: usize) -> Shape
     }
 }
 
-/// Whether it takes so many arguments.
-pub(crate) fn takes(shape: Shape, arguments: usize) -> bool
-    ensures { result ≡ takes arguments (shape_view shape) }
+/// Whether it takes any count of arguments.
+pub(crate) fn is_open(shape: Shape) -> bool
+    ensures { result ≡ is_open (shape_view shape) }
 {
     match shape {
-        Shape::Function(count) => arguments == count,
-        Shape::Struct(count) => arguments == count || arguments == 0,
         Shape::OpenAlias => true,
-        Shape::Alias(_) => false,
-        Shape::Other => false,
+        _ => false,
     }
 }
 

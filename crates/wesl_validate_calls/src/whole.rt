@@ -6,18 +6,18 @@ ghost use Rattle.wesl_tree.specs.Translation.{unit_view};
 ghost use Rattle.wesl_scope_occurrences.specs.Identified.{identified};
 ghost use Rattle.wesl_scope_strip.specs.Declarations.{all};
 ghost use Rattle.wesl_validate_builtins.specs.Builtins.{builtins_view};
+ghost use Rattle.wesl_validate_calls.specs.Ends.{AreEnds};
 ghost use Rattle.wesl_validate_calls.specs.Made.{call_told};
-ghost use Rattle.wesl_validate_calls.specs.Reached.{IsClear};
 ghost use Rattle.wesl_validate_calls.specs.Tables.{AreTables};
 ghost use Rattle.wesl_validate_calls.specs.Verdicts.{IsVerdict, AreMisfits, AddsMisfits, calls_there, numbered, misfit_in};
-ghost use Rattle.wesl_validate_calls.specs.Views.{tables_view};
+ghost use Rattle.wesl_validate_calls.specs.Views.{ends_view, tables_view};
 
 use crate::callables::Callables;
 use crate::calls::{Call, calls_of};
+use crate::ends::{Ends, ends_of};
 use crate::fitting::call_at;
 use crate::judge::judged;
 use crate::misfit::Misfit;
-use crate::reach::reached;
 use crate::tables::{Tables, tables_of};
 use std::alloc::{AllocError, Global};
 use wesl_scope_occurrences::Identifiers;
@@ -27,24 +27,33 @@ use wesl_tree_syntax::GlobalDeclaration;
 use wesl_validate_builtins::Builtins;
 
 /// What is told of a call, if it fits nothing of what its aliases end in: of several names where they end the first is
-/// told. `marks` are those of `reached`.
-fn verdict(
+/// told.
+pub(crate) fn verdict(
+    unit: &TranslationUnit,
+    callables: &Callables<'_>,
+    tables: &Tables,
+    ends: &Ends,
+    call: Call,
+) -> Option<Misfit>
+    requires tables { AreTables (unit_view unit.now) (tables_view tables.now) }
+    requires ends { AreEnds (tables_view tables.now) (unit_view unit.now).names (builtins_view callables.now.builtins.now) (ends_view ends.now) }
+    ensures { IsVerdict (unit_view unit.now) (builtins_view callables.now.builtins.now) (call_told call) result }
+{
+    judged(tables, ends, unit.names(), callables, call)
+}
+
+/// Where the aliases of each number of a module lead. Refused for want of memory alone.
+pub(crate) fn ends_in(
     alloc: Global,
     unit: &TranslationUnit,
     callables: &Callables<'_>,
     tables: &Tables,
-    marks: &mut [bool],
-    call: Call,
-) -> Result<Option<Misfit>, AllocError>
-    requires tables { AreTables (unit_view unit.now) (tables_view tables.now) }
-    requires clear { IsClear (tables_view tables.now).aliases marks.old }
-    ensures verdict { IfOk result (IsVerdict (unit_view unit.now) (builtins_view callables.now.builtins.now) (call_told call)) }
-    ensures clear { IfOk result (λ _. IsClear (tables_view tables.now).aliases marks.new) }
+) -> Result<Ends, AllocError>
+    requires { AreTables (unit_view unit.now) (tables_view tables.now) }
+    ensures { IfOk result (λ ends. AreEnds (tables_view tables.now) (unit_view unit.now).names (builtins_view callables.now.builtins.now) (ends_view ends)) }
 {
-    let mut numbers = reached(alloc, &tables.aliases, marks, call.callee)?;
-    numbers.sort()?;
-    let misfit = judged(tables, unit.names(), callables, call.arguments, &numbers);
-    Ok(misfit)
+    let ends = ends_of(alloc, tables, unit.names(), callables)?;
+    Ok(ends)
 }
 
 /// Adds the misfit of a call in a declaration, if there is one.
@@ -66,23 +75,21 @@ fn add(
 
 /// Adds those of these calls of a declaration that fit nothing.
 fn add_misfits(
-    alloc: Global,
     misfits: &mut Vec<(usize, Misfit)>,
     unit: &TranslationUnit,
     callables: &Callables<'_>,
     tables: &Tables,
-    marks: &mut [bool],
+    ends: &Ends,
     declaration: usize,
     calls: &Vec<Call>,
 ) -> Result<(), AllocError>
     requires tables { AreTables (unit_view unit.now) (tables_view tables.now) }
-    requires clear { IsClear (tables_view tables.now).aliases marks.old }
-    ensures added { IfOk result (λ _. AddsMisfits (unit_view unit.now) (builtins_view callables.now.builtins.now) (numbered declaration (map call_told calls.now.items)) misfits.old.items misfits.new.items) }
-    ensures clear { IfOk result (λ _. IsClear (tables_view tables.now).aliases marks.new) }
+    requires ends { AreEnds (tables_view tables.now) (unit_view unit.now).names (builtins_view callables.now.builtins.now) (ends_view ends.now) }
+    ensures { IfOk result (λ _. AddsMisfits (unit_view unit.now) (builtins_view callables.now.builtins.now) (numbered declaration (map call_told calls.now.items)) misfits.old.items misfits.new.items) }
 {
     for place in 0..calls.len() {
         let call = call_at(calls, place);
-        let misfit = verdict(alloc, unit, callables, tables, marks, call)?;
+        let misfit = verdict(unit, callables, tables, ends, call);
         add(misfits, declaration, misfit)?;
     }
     Ok(())
@@ -95,20 +102,17 @@ fn add_misfits_in(
     unit: &TranslationUnit,
     callables: &Callables<'_>,
     tables: &Tables,
-    marks: &mut [bool],
+    ends: &Ends,
     number: usize,
     declaration: &GlobalDeclaration,
 ) -> Result<(), Error>
     requires tables { AreTables (unit_view unit.now) (tables_view tables.now) }
-    requires clear { IsClear (tables_view tables.now).aliases marks.old }
+    requires ends { AreEnds (tables_view tables.now) (unit_view unit.now).names (builtins_view callables.now.builtins.now) (ends_view ends.now) }
     ensures added { IfOk result (λ _. AddsMisfits (unit_view unit.now) (builtins_view callables.now.builtins.now) (calls_there number (global_view declaration.now)) misfits.old.items misfits.new.items) }
-    ensures clear { IfOk result (λ _. IsClear (tables_view tables.now).aliases marks.new) }
     ensures refused { IfErr result (λ e. e ≡ error.Memory) }
 {
     let calls = calls_of(alloc, declaration)?;
-    add_misfits(
-        alloc, misfits, unit, callables, tables, marks, number, &calls,
-    )?;
+    add_misfits(misfits, unit, callables, tables, ends, number, &calls)?;
     Ok(())
 }
 
@@ -118,10 +122,10 @@ fn misfits_of(
     unit: &TranslationUnit,
     callables: &Callables<'_>,
     tables: &Tables,
-    marks: &mut [bool],
+    ends: &Ends,
 ) -> Result<Vec<(usize, Misfit)>, Error>
     requires tables { AreTables (unit_view unit.now) (tables_view tables.now) }
-    requires clear { IsClear (tables_view tables.now).aliases marks.old }
+    requires ends { AreEnds (tables_view tables.now) (unit_view unit.now).names (builtins_view callables.now.builtins.now) (ends_view ends.now) }
     ensures misfits { IfOk result (λ misfits. AreMisfits (unit_view unit.now) (builtins_view callables.now.builtins.now) misfits.items) }
     ensures refused { IfErr result (λ e. e ≡ error.Memory) }
 {
@@ -129,7 +133,7 @@ fn misfits_of(
     let mut misfits = Vec::new(alloc);
     for j in 0..declarations.len() {
         let node = &declarations[j].node;
-        add_misfits_in(alloc, &mut misfits, unit, callables, tables, marks, j, node)?;
+        add_misfits_in(alloc, &mut misfits, unit, callables, tables, ends, j, node)?;
     }
     Ok(misfits)
 }
@@ -141,8 +145,8 @@ fn misfits_of(
 /// Of several names in which the aliases of a call end the one is told whose number is the least: for a count the least
 /// that a function or a structure has, and of several of its declarations the first of these.
 ///
-/// `found` are the identifiers of the unit. It goes over the calls and their aliases once. Refused for want of memory
-/// alone.
+/// `found` are the identifiers of the unit. It goes over the calls once, and over the aliases once for each count of arguments
+/// that they lead to. Refused for want of memory alone.
 pub fn misfits(
     alloc: Global,
     unit: &TranslationUnit,
@@ -155,6 +159,6 @@ pub fn misfits(
 {
     let callables = Callables::new(alloc, builtins)?;
     let tables = tables_of(alloc, unit, found)?;
-    let mut marks = vec![in alloc; false; tables.aliases.len()]?;
-    misfits_of(alloc, unit, &callables, &tables, &mut marks)
+    let ends = ends_in(alloc, unit, &callables, &tables)?;
+    misfits_of(alloc, unit, &callables, &tables, &ends)
 }

@@ -4,12 +4,7 @@ use Rattle.wesl_tree.specs.Translation.{unit_view}
 use Rattle.wesl_validate_builtins.specs.Builtins.{builtins_view}
 use Rattle.wesl_validate_calls.specs.Made.{call_told}
 use Rattle.wesl_validate_calls.specs.Misfits.{Passes}
-use Rattle.wesl_validate_calls.specs.Reached.{IsClear}
-use Rattle.wesl_validate_calls.specs.Views.{tables_view}
 use Rattle.wesl_validate_calls.proofs.fitting.misfit_among.Given as goal
 
 abbrev pub invariant-loop-place : goal.invariant-loop-place
-invariant-loop-place l = record {
-  clear : IsClear (tables_view l.tables).aliases l.marks;
-  passed : All (Passes (unit_view l.unit) (builtins_view l.callables.builtins.now)) (map call_told (take l.place l.calls.items));
-}
+invariant-loop-place l = All (Passes (unit_view l.unit) (builtins_view l.callables.builtins.now)) (map call_told (take l.place l.calls.items))

@@ -27,14 +27,11 @@ loop-j-preserved c =
     let v = c.global_declarations-declarations.result.now in
     let d = c.index-declaration.result.now in
     let inside : c.loop-j.j < length v.items = omega (arith, c.loop-j-test.true, c.len-j-end.ensures) in
-    record {
-      clear = c.in_ok-misfit.ensures.clear;
-      passed = pass_next u b v c.global_declarations-declarations.ensures.declarations c.loop-j.j d inside c.index-declaration.ensures c.loop-j.invariant.passed
-          (subst (λ r. IfNone r (All (Passes u b) (calls_in (before (global_view d.node) end)))) c.in-None.is c.in_ok-misfit.ensures.none);
-    }
+    pass_next u b v c.global_declarations-declarations.ensures.declarations c.loop-j.j d inside c.index-declaration.ensures c.loop-j.invariant
+    (subst (λ r. IfNone r (All (Passes u b) (calls_in (before (global_view d.node) end)))) c.in-None.is c.in_ok-misfit.ensures.none)
 
 pub returns-clause-none : goal.returns-clause-none
 returns-clause-none c =
     let v = c.global_declarations-declarations.result.now in
     let over : length v.items ≤ c.loop-j.j = omega (arith, c.loop-j-test.false, c.len-j-end.ensures) in
-    all_pass (unit_view c.args.unit.now) (builtins_view c.args.callables.now.builtins.now) v c.global_declarations-declarations.ensures.declarations c.loop-j.j over c.loop-j.invariant.passed
+    all_pass (unit_view c.args.unit.now) (builtins_view c.args.callables.now.builtins.now) v c.global_declarations-declarations.ensures.declarations c.loop-j.j over c.loop-j.invariant

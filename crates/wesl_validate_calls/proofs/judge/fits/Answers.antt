@@ -1,15 +1,15 @@
-use Rattle.std.proofs.Common.{sym, ◌∙◌}
+use Rattle.std.proofs.Common.{◌∙◌, sym}
 use Rattle.wesl_validate_builtins.specs.Builtins.{builtins_view}
-use Rattle.wesl_validate_calls.specs.Judged.{accepts_at}
-use Rattle.wesl_validate_calls.specs.Views.{tables_view}
-use Rattle.wesl_validate_calls.proofs.Searching.{any_found, any_none, any_on}
+use Rattle.wesl_validate_calls.specs.Made.{call_told}
+use Rattle.wesl_validate_calls.specs.Views.{ends_view, tables_view}
+use Rattle.wesl_validate_calls.proofs.Ending.{found_fits, fits_found}
 use Rattle.wesl_validate_calls.proofs.judge.fits.Goals as goal
 
-pub loop-number-preserved : goal.loop-number-preserved
-loop-number-preserved c = any_on c.deref-number-items.result.now c.args.numbers.now.items c.loop-number.number-index c.deref-number-items.ensures.value (accepts_at (tables_view c.args.tables.now) c.args.names.now (builtins_view c.args.callables.now.builtins.now) c.args.arguments) c.loop-number.invariant c.loop-number-test.true (sym c.accepts_at.ensures ∙ c.if-accepts_at.false)
-
-pub returns-then-accepts_at : goal.returns-then-accepts_at
-returns-then-accepts_at c = any_found c.deref-number-items.result.now c.args.numbers.now.items c.loop-number.number-index c.deref-number-items.ensures.value (accepts_at (tables_view c.args.tables.now) c.args.names.now (builtins_view c.args.callables.now.builtins.now) c.args.arguments) c.loop-number.invariant c.loop-number-test.true (sym c.accepts_at.ensures ∙ c.if-accepts_at.true)
-
 pub returns : goal.returns
-returns c = any_none c.deref-number-items.result.now c.args.numbers.now.items c.loop-number.number-index c.deref-number-items.ensures.value (accepts_at (tables_view c.args.tables.now) c.args.names.now (builtins_view c.args.callables.now.builtins.now) c.args.arguments) c.loop-number.invariant c.loop-number-test.false
+returns c =
+    let t = tables_view c.args.tables.now in
+    let names = c.args.names.now in
+    let b = builtins_view c.args.callables.now.builtins.now in
+    let ends = ends_view c.args.ends.now in
+    let call = call_told c.args.call in
+    (λ e. found_fits t names b c.requires.closed ends c.requires.ends call (sym c.is_found.ensures ∙ e), λ f. c.is_found.ensures ∙ fits_found t names b c.requires.closed ends c.requires.ends call f)

@@ -5,7 +5,7 @@ use Rattle.wesl_validate_calls.proofs.Adding.{more_misfits, all_misfits}
 use Rattle.wesl_validate_calls.proofs.whole.misfits_of.Goals as goal
 
 pub loop-j-init : goal.loop-j-init
-loop-j-init c = record { clear = c.requires.clear; inside = omega arith; misfits = c.new-misfits.ensures.items }
+loop-j-init c = record { inside = omega arith; misfits = c.new-misfits.ensures.items }
 
 pub loop-j-preserved : goal.loop-j-preserved
 loop-j-preserved c =
@@ -15,7 +15,6 @@ loop-j-preserved c =
     let d = c.index.result.now in
     let inside : c.loop-j.j < length v.items = omega (arith, c.loop-j-test.true, c.len-j-end.ensures) in
     record {
-      clear = c.in_ok-add_misfits_in.ensures.clear;
       inside = omega (arith, inside);
       misfits = more_misfits u b v c.global_declarations-declarations.ensures.declarations c.loop-j.j d c.loop-j.misfits.items c.add_misfits_in.new.misfits.items inside c.index.ensures c.loop-j.invariant.misfits c.in_ok-add_misfits_in.ensures.added;
     }

@@ -1,26 +1,19 @@
-use Rattle.std.proofs.Common.{◌≡◌, ◌↔◌, ℕ, sym, ap, ◌∙◌}
-use Rattle.std.specs.List.{Contains}
-use Rattle.std.specs.List.Sorted.{IsNonDecreasing}
-use Rattle.std.proofs.lemmas.List.Sorted.{IsNonDecreasingBy-from_sort, IsPermutation-sym, Contains-permutation}
+use Rattle.std.proofs.Common.{sym, subst}
 use Rattle.wesl_tree.specs.Translation.{unit_view}
 use Rattle.wesl_validate_builtins.specs.Builtins.{builtins_view}
-use Rattle.wesl_validate_calls.specs.Judged.{judged}
-use Rattle.wesl_validate_calls.specs.Reached.{ReachedFrom}
-use Rattle.wesl_validate_calls.specs.Views.{tables_view}
+use Rattle.wesl_validate_calls.specs.Ends.{AreEnds, IsJudged}
+use Rattle.wesl_validate_calls.specs.Made.{call_told}
+use Rattle.wesl_validate_calls.specs.Views.{ends_view, tables_view}
 use Rattle.wesl_validate_calls.proofs.Judging.{verdict}
 use Rattle.wesl_validate_calls.proofs.whole.verdict.Goals as goal
 
-pub returns-clause-verdict : goal.returns-clause-verdict
-returns-clause-verdict c =
+pub returns : goal.returns
+returns c =
     let u = unit_view c.args.unit.now in
     let t = tables_view c.args.tables.now in
     let b = builtins_view c.args.callables.now.builtins.now in
-    let met = c.in_ok-numbers.numbers.items in
-    let ns = c.sort.new.self.items in
-    let all : (e : ℕ) → Contains ns e ↔ ReachedFrom t.aliases c.args.call.callee e = λ e. (
-      λ d. (c.in_ok-numbers.ensures.reached e).0 (Contains-permutation ns met e (IsPermutation-sym met ns c.in_ok-sort.ensures.permutation) d),
-      λ r. Contains-permutation met ns e c.in_ok-sort.ensures.permutation ((c.in_ok-numbers.ensures.reached e).1 r),
-    ) in
-    let up : IsNonDecreasing ns = IsNonDecreasingBy-from_sort (λ n. n) ns c.in_ok-sort.ensures.sorted in
-    let said : c.judged-misfit.result ≡ judged t u.names b c.args.call.arguments ns = c.judged-misfit.ensures ∙ ap (λ names. judged t names b c.args.call.arguments ns) c.names.ensures.names in
-    verdict u t c.requires.tables b c.args.call.callee c.args.call.arguments ns all up c.judged-misfit.result (sym said)
+    verdict u t c.requires.tables b (call_told c.args.call) c.judged.result
+    (subst (λ ns. IsJudged t ns b (call_told c.args.call) c.judged.result) c.names.ensures.names c.judged.ensures)
+
+pub judged-requires-clause-ends : goal.judged-requires-clause-ends
+judged-requires-clause-ends c = subst (λ ns. AreEnds (tables_view c.args.tables.now) ns (builtins_view c.args.callables.now.builtins.now) (ends_view c.args.ends.now)) (sym c.names.ensures.names) c.requires.ends
