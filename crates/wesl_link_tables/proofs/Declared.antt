@@ -5,16 +5,18 @@ use mathlib.Core.List.{map-map}
 use Rattle.std.proofs.lemmas.List.{map-append}
 use Rattle.wesl_tree_names.specs.Path.{Text, Path}
 use Rattle.wesl_tree_names.specs.declared.names.Ident.{Ident}
-use Rattle.wesl_link_tables.specs.declared.imports.Target.{Target}
 use Rattle.wesl_tree_syntax.specs.Tree.{LabelOf, kind, at, ident, text, texts, truth, unary, binary, assignment, space, access, path, binder, reference, word, ForestOf, TreeOf, end, tree, trees, identifiers, respell_label, respell_forest, respell}
 use Rattle.wesl_tree_syntax.specs.Unit.{name_in, UnitView, spelled}
 use Rattle.wesl_cond_choices.specs.declared.place.Place.{Place}
 use Rattle.wesl_cond_choices.specs.declared.place.Place.TheVariants as places
+use Rattle.wesl_link_symbols.specs.declared.ids.PathId.{PathId}
 use Rattle.wesl_link_symbols.specs.declared.symbols.Import.{Import}
 use Rattle.wesl_link_tables.specs.Imports as imports
+use Rattle.wesl_link_tables.specs.Numbering.{IsLonger}
 use Rattle.wesl_link_tables.specs.Tables.{bound_name, or_later, declared_name}
 use Rattle.wesl_link_tables.specs.Spelling.{respell_import, spelled_imports}
-use Rattle.wesl_link_tables.specs.Walks.{import_view}
+use Rattle.wesl_link_tables.specs.Walks.{HavePaths, import_view}
+use Rattle.wesl_link_tables.proofs.Known.{found_same}
 
 -- a question about labels whose answer does not depend on identifiers
 abbrev pub IsBlind : {I J X : Type 0} → (I → J) → (LabelOf I → X) → (LabelOf J → X) → Type 0
@@ -234,8 +236,16 @@ module _ {I J : Type 0} (f : I → J) where
 
 -- ---- the whole module
 
-pub imports_are : (own : Path) (u : UnitView) (is : List (Import Target Ident)) → map import_view is ≡ imports.all_imports own u.imports.children → spelled_imports u.names is ≡ imports.imports own (spelled u)
-imports_are own u is e =
+pub imports_are : (paths : List Path) (own : Path) (u : UnitView) (is : List (Import PathId Ident)) → map (import_view paths) is ≡ imports.all_imports own u.imports.children → spelled_imports paths u.names is ≡ imports.imports own (spelled u)
+imports_are paths own u is e =
     let f : ℕ → Text = name_in u.names in
-    let apart : spelled_imports u.names is ≡ map (respell_import f) (map import_view is) = simp map-map in
+    let apart : spelled_imports paths u.names is ≡ map (respell_import f) (map (import_view paths) is) = simp map-map in
     apart ∙ (ap (map (respell_import f)) e ∙ sym (all_imports_respelled f own u.imports.children))
+
+-- paths that are added change none of them
+pub spelled_same : (ps qs : List Path) → IsLonger ps qs → (names : List Text) (is : List (Import PathId Ident)) → HavePaths ps is → spelled_imports qs names is ≡ spelled_imports ps names is
+spelled_same ps qs longer names is h =
+    let f : ℕ → Text = name_in names in
+    let before : spelled_imports ps names is ≡ map (respell_import f) (map (import_view ps) is) = simp map-map in
+    let after : spelled_imports qs names is ≡ map (respell_import f) (map (import_view qs) is) = simp map-map in
+    after ∙ (ap (map (respell_import f)) (found_same ps qs longer is h) ∙ sym before)

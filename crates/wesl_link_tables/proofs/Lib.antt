@@ -3,6 +3,7 @@ mod Nodes
 pub mod Walked
 mod Numbered
 pub mod Related
+mod Known
 pub mod Asked
 pub mod Declared
 pub mod Naming

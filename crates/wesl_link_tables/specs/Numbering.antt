@@ -1,7 +1,7 @@
 -- Numbers for names and paths, and symbol tables that are the same but for the numbers in place of names and paths.
-use Rattle.std.specs.Prelude.{◌≡◌, ◌⊎◌, Bool, false, Option, Some, None, List, [], ◌∷◌, ◌++◌}
+use Rattle.std.specs.Prelude.{◌≡◌, ◌⊎◌, Bool, false, Option, Some, None, List, [], ◌∷◌, ◌++◌, get_or}
 use Rattle.std.specs.List.{list_any}
-use Rattle.wesl_tree_names.specs.Path.{Text, Path}
+use Rattle.wesl_tree_names.specs.Path.{Text, Path, root_path}
 use Rattle.wesl_cond_choices.specs.declared.place.Place.{Place}
 use Rattle.wesl_cond_choices.specs.Places.{together}
 use Rattle.wesl_link_symbols.specs.declared.ids.PathId.{PathId}
@@ -37,6 +37,10 @@ module _ {P N Q M : Type 0} (R : P → Q → Type 0) (S : N → M → Type 0) wh
     pub crowded : t.is_crowded ≡ u.is_crowded
 
 -- ---- numbers
+
+-- the path of a number among these
+abbrev pub path_in : List Path → PathId → Path
+path_in paths p = get_or paths p.0 root_path
 
 -- the list goes on from the other
 abbrev pub IsLonger : {X : Type 0} → List X → List X → Type 0

@@ -1,8 +1,6 @@
 -- What a table is made of, while it is made.
 use Rattle.std.specs.Prelude.{◌≡◌, true, false, Option, Some, None, List, [], map}
-use Rattle.std.specs.Borrow.{Bor}
-use Rattle.wesl_tree_names.specs.Path.{Text, Path, path_view}
-use Rattle.wesl_tree_names.specs.declared.path.ModulePath.{ModulePath}
+use Rattle.wesl_tree_names.specs.Path.{Text, Path}
 use Rattle.wesl_tree_syntax.specs.Unit.{UnitOf, UnitView, spelled}
 use Rattle.wesl_scope_occurrences.specs.Pieces.{declarations_in}
 use Rattle.wesl_cond_choices.specs.declared.place.Place.{Place}
@@ -17,7 +15,7 @@ use Rattle.wesl_link_split.specs.Split as split
 use Rattle.wesl_link_split.specs.declared.binders.Binder.{Binder}
 use Rattle.wesl_link_split.specs.declared.split.Scope.{Scope}
 use Rattle.wesl_link_tables.specs.Marks.{AreMarked}
-use Rattle.wesl_link_tables.specs.Numbering.{Numbering, AreRelated, AreNumberedImports, AreNumberedDeclarations, NameAt, PathAt}
+use Rattle.wesl_link_tables.specs.Numbering.{Numbering, AreRelated, AreNumberedImports, AreNumberedDeclarations, NameAt}
 use Rattle.wesl_link_tables.specs.Reading.{AreNumbersOfNames}
 use Rattle.wesl_link_tables.specs.Split.{binders_by, alive_if, crowded_if, has_many_flags}
 use Rattle.wesl_link_tables.specs.Tables.{uses, table_at}
@@ -26,10 +24,6 @@ use Rattle.wesl_link_tables.specs.declared.table.Declared.{Declared}
 use Rattle.wesl_link_tables.specs.declared.table.Parts.{Parts}
 use Rattle.wesl_link_tables.specs.declared.table.Scoped.{Scoped}
 use Rattle.wesl_link_tables.specs.declared.table.UnitNumbers.{UnitNumbers}
-
--- a path with its number
-abbrev pub HasNumber : Numbering → Bor ModulePath × PathId → Type 0
-HasNumber nb p = PathAt nb p.1 (path_view p.0.now)
 
 -- nothing has a number
 pub record IsUnnumbered (n : UnitNumbers) : Type 0 where

@@ -1,15 +1,19 @@
 //! What the imports of a module bind (WESL, "Imports").
-ghost use Rattle.std.specs.Prelude.{◌≡◌, ◌++◌, true, false, All, map, option_map, string_bytes, IfOk, OnOk};
-ghost use Rattle.wesl_tree_names.specs.Path.{path_view, extend, is_relative, join};
+ghost use Rattle.std.specs.Prelude.{◌≡◌, ◌++◌, true, false, map, option_map, string_bytes, IfOk, OnOk};
+ghost use Rattle.wesl_tree_names.specs.Path.{path_view, is_relative};
 ghost use Rattle.wesl_tree_syntax.specs.Tree.{before, end, forest_of};
 ghost use Rattle.wesl_tree_syntax.specs.View.{attribute_view, attributes_tree, content_view, entry_view, item_view, imports_tree};
 ghost use Rattle.wesl_link_tables.specs.Imports as imports;
-ghost use Rattle.wesl_link_tables.specs.Base.{base_view, target_path};
-ghost use Rattle.wesl_link_tables.specs.Walks.{HasImported, imports_of, statement_imports};
+ghost use Rattle.wesl_link_tables.specs.Base.{base_view, IsKnownBase};
+ghost use Rattle.wesl_link_tables.specs.Numbering.{IsLonger};
+ghost use Rattle.wesl_link_tables.specs.NumbersView.{paths_of};
+ghost use Rattle.wesl_link_tables.specs.Walks.{AreKnown, HasImported, HasItem, KeepsKnown, imports_of, statement_imports};
 
-use crate::memory::{copied, memory};
+use crate::memory::memory;
+use crate::numbers::PathNumbers;
 use std::alloc::{AllocError, Global};
 use wesl_cond_choices::place::Place;
+use wesl_link_symbols::ids::PathId;
 use wesl_link_symbols::symbols::Import;
 use wesl_tree_names::{Ident, ModulePath, PathOrigin};
 use wesl_tree_syntax::{
@@ -17,130 +21,91 @@ use wesl_tree_syntax::{
     ImportStatementNode,
 };
 
-/// The path of the module that an import leads to.
-#[derive(Drop)]
-pub enum Target<'a> {
-    /// That of the import's statement.
-    Written(&'a ModulePath),
-    /// One that was made for the import.
-    Made(ModulePath),
-}
-
-impl<'a> Target<'a> {
-    /// The path.
-    pub fn path(&self) -> &ModulePath
-        ensures { path_view result.now ≡ target_path self.now }
-    {
-        match self {
-            Target::Written(path) => *path,
-            Target::Made(path) => path,
-        }
-    }
-
-    /// The path with these components behind it. What is written is lent where there are none.
-    fn entered(&self, alloc: Global, components: &[String]) -> Result<Target<'a>, AllocError>
-        ensures { IfOk result (λ t. target_path t ≡ extend (target_path self.now) (map string_bytes components.now)) }
-    {
-        match self {
-            Target::Written(path) if components.is_empty() => Ok(Target::Written(*path)),
-            _ => Ok(Target::Made(memory(self.path().join(alloc, components))?)),
-        }
-    }
-}
-
 /// Where the parts of an import statement lead.
-#[derive(Drop)]
-enum Base<'a> {
+#[derive(Clone, Copy)]
+enum Base {
     /// The statement has no path: the first component of an entry names a package.
     Unset,
     /// No module.
     Nowhere,
-    /// The module at this path.
-    At(Target<'a>),
-}
-
-impl<'a> Base<'a> {
-    /// Where the entry with these components leads.
-    fn entered(&self, alloc: Global, components: &[String]) -> Result<Base<'a>, AllocError>
-        ensures { IfOk result (λ b. base_view b ≡ imports.entered (base_view self.now) (map string_bytes components.now)) }
-    {
-        match self {
-            Base::At(target) => Ok(Base::At(target.entered(alloc, components)?)),
-            Base::Nowhere => Ok(Base::Nowhere),
-            Base::Unset => in_package(alloc, components),
-        }
-    }
-}
-
-/// The module at a path that was made.
-fn made<'a>(path: ModulePath) -> Base<'a>
-    ensures { base_view result ≡ imports.to (path_view path) }
-{
-    Base::At(Target::Made(path))
+    /// The module whose path has this number.
+    At(PathId),
 }
 
 /// The module that these components name, of which the first is a package.
-fn in_package<'a>(alloc: Global, components: &[String]) -> Result<Base<'a>, AllocError>
-    ensures { IfOk result (λ b. base_view b ≡ imports.entered imports.unset (map string_bytes components.now)) }
+fn in_package(
+    alloc: Global,
+    paths: &mut PathNumbers,
+    components: &[String],
+) -> Result<Base, AllocError>
+    ensures base { IfOk result (λ b. base_view (paths_of paths.new) b ≡ imports.entered imports.unset (map string_bytes components.now)) }
+    ensures known { IfOk result (IsKnownBase (paths_of paths.new)) }
+    ensures grows { IsLonger (paths_of paths.old) (paths_of paths.new) }
 {
     let Some((package, names)) = components.split_first() else {
         return Ok(Base::Nowhere);
     };
     let origin = PathOrigin::Package(package.clone()?);
     let root = ModulePath::new(origin, Vec::new(alloc));
-    Ok(made(memory(root.join(alloc, names))?))
+    let path = memory(root.join(alloc, names))?;
+    Ok(Base::At(paths.keep(path)?))
 }
 
-/// Whether a path means the module at `own` what is written: it is not relative, and `own` is in no named package.
-fn is_as_written(own: &ModulePath, path: &ModulePath) -> bool
-    ensures { result ≡ true → join (path_view own.now) (path_view path.now) ≡ path_view path.now }
+/// Where the entry with these components leads, whose statement or list leads there.
+fn entered(
+    alloc: Global,
+    paths: &mut PathNumbers,
+    base: Base,
+    components: &[String],
+) -> Result<Base, AllocError>
+    requires { IsKnownBase (paths_of paths.old) base }
+    ensures base { IfOk result (λ b. base_view (paths_of paths.new) b ≡ imports.entered (base_view (paths_of paths.old) base) (map string_bytes components.now)) }
+    ensures known { IfOk result (IsKnownBase (paths_of paths.new)) }
+    ensures grows { IsLonger (paths_of paths.old) (paths_of paths.new) }
 {
-    match (&own.origin, &path.origin) {
-        (PathOrigin::Package(_), _) => false,
-        (_, PathOrigin::Relative(_)) => false,
-        (_, _) => true,
+    match base {
+        Base::At(path) => Ok(Base::At(paths.extended(alloc, path, components)?)),
+        Base::Nowhere => Ok(Base::Nowhere),
+        Base::Unset => in_package(alloc, paths, components),
     }
-}
-
-/// Where a statement with this path leads in the module at `own`.
-fn joined<'a>(alloc: Global, own: &ModulePath, path: &'a ModulePath) -> Result<Base<'a>, AllocError>
-    ensures { IfOk result (λ b. base_view b ≡ imports.to (join (path_view own.now) (path_view path.now))) }
-{
-    if is_as_written(own, path) {
-        return Ok(Base::At(Target::Written(path)));
-    }
-    Ok(made(memory(own.join_path(alloc, path))?))
 }
 
 /// Where a statement with this path leads in the module at `own`, where it has one.
-fn base_of<'a>(
+fn base_of(
     alloc: Global,
+    paths: &mut PathNumbers,
     own: &ModulePath,
-    path: &'a Option<ModulePath>,
-) -> Result<Base<'a>, AllocError>
-    ensures { IfOk result (λ b. base_view b ≡ imports.base_of (path_view own.now) (option_map path_view path.now)) }
+    path: &Option<ModulePath>,
+) -> Result<Base, AllocError>
+    requires { is_relative (path_view own.now) ≡ false }
+    ensures base { IfOk result (λ b. base_view (paths_of paths.new) b ≡ imports.base_of (path_view own.now) (option_map path_view path.now)) }
+    ensures known { IfOk result (IsKnownBase (paths_of paths.new)) }
+    ensures grows { IsLonger (paths_of paths.old) (paths_of paths.new) }
 {
     match path {
-        Some(path) => joined(alloc, own, path),
+        Some(path) => Ok(Base::At(paths.joined(alloc, own, path)?)),
         None => Ok(Base::Unset),
     }
 }
 
-/// The imports with a target of the module at `own`, in the order of the source, each with where its statement stands.
-/// Refused for want of memory alone.
-pub fn imports<'a>(
+/// The imports with a target of the module at `own`, in the order of the source, each with where its statement stands and with
+/// the number of its target's path. Refused for want of memory alone.
+pub fn imports(
     alloc: Global,
+    paths: &mut PathNumbers,
     own: &ModulePath,
-    statements: &'a Vec<ImportStatementNode>,
-) -> Result<Vec<Import<Target<'a>, Ident>>, AllocError>
+    statements: &Vec<ImportStatementNode>,
+) -> Result<Vec<Import<PathId, Ident>>, AllocError>
     requires { is_relative (path_view own.now) ≡ false }
-    ensures imports { IfOk result (λ found. imports_of found ≡ imports.all_imports (path_view own.now) (imports_tree statements.now).children) }
-    ensures asked { IfOk result (λ found. All (λ i. is_relative (target_path i.path) ≡ false) found.items) }
+    ensures imports { IfOk result (λ found. imports_of (paths_of paths.new) found ≡ imports.all_imports (path_view own.now) (imports_tree statements.now).children) }
+    ensures known { IfOk result (AreKnown (paths_of paths.new)) }
+    ensures grows { IsLonger (paths_of paths.old) (paths_of paths.new) }
 {
     let mut found = Vec::with_capacity(alloc, statements.len())?;
     for i in 0..statements.len() {
         add_statement(
             alloc,
+            paths,
             own,
             &mut found,
             Place::Import(i),
@@ -150,80 +115,117 @@ pub fn imports<'a>(
     Ok(found)
 }
 
-fn add_statement<'a>(
+fn add_statement(
     alloc: Global,
+    paths: &mut PathNumbers,
     own: &ModulePath,
-    found: &mut Vec<Import<Target<'a>, Ident>>,
+    found: &mut Vec<Import<PathId, Ident>>,
     stands: Place,
-    statement: &'a ImportStatement,
+    statement: &ImportStatement,
 ) -> Result<(), AllocError>
-    ensures { OnOk result (imports_of found.new ≡ imports_of found.old ++ statement_imports own.now stands statement.now) }
+    requires own { is_relative (path_view own.now) ≡ false }
+    requires known { AreKnown (paths_of paths.old) found.old }
+    ensures imports { OnOk result (imports_of (paths_of paths.new) found.new ≡ imports_of (paths_of paths.old) found.old ++ statement_imports own.now stands statement.now) }
+    ensures known { OnOk result (AreKnown (paths_of paths.new) found.new) }
+    ensures grows { IsLonger (paths_of paths.old) (paths_of paths.new) }
 {
-    let base = base_of(alloc, own, &statement.path)?;
+    let base = base_of(alloc, paths, own, &statement.path)?;
     let published = is_published(&statement.attributes);
-    add_content(alloc, found, stands, published, base, &statement.content)
+    add_content(
+        alloc,
+        paths,
+        found,
+        stands,
+        published,
+        base,
+        &statement.content,
+    )
 }
 
 #[cycle(imports)]
-fn add_content<'a>(
+fn add_content(
     alloc: Global,
-    found: &mut Vec<Import<Target<'a>, Ident>>,
+    paths: &mut PathNumbers,
+    found: &mut Vec<Import<PathId, Ident>>,
     stands: Place,
     published: bool,
-    base: Base<'a>,
+    base: Base,
     content: &ImportContent,
 ) -> Result<(), AllocError>
-    ensures { OnOk result (HasImported stands published base.entry (before (content_view content.now) end) found.old found.new) }
+    requires base { IsKnownBase (paths_of paths.old) base }
+    requires known { AreKnown (paths_of paths.old) found.old }
+    ensures imports { OnOk result (HasImported (paths_of paths.old) (paths_of paths.new) stands published base (before (content_view content.now) end) found.old found.new) }
+    ensures known { OnOk result (AreKnown (paths_of paths.new) found.new) }
+    ensures grows { IsLonger (paths_of paths.old) (paths_of paths.new) }
 {
     match content {
-        ImportContent::Item(item) => add_item(alloc, found, stands, published, base, item),
+        ImportContent::Item(item) => add_item(found, stands, published, base, item),
         ImportContent::Collection(entries) => add_entries(
-            alloc, found, stands, published, &base, entries,
+            alloc, paths, found, stands, published, base, entries,
         ),
     }
 }
 
 #[cycle(imports)]
-fn add_entries<'a>(
+fn add_entries(
     alloc: Global,
-    found: &mut Vec<Import<Target<'a>, Ident>>,
+    paths: &mut PathNumbers,
+    found: &mut Vec<Import<PathId, Ident>>,
     stands: Place,
     published: bool,
-    base: &Base<'a>,
+    base: Base,
     entries: &Vec<ImportEntry>,
 ) -> Result<(), AllocError>
-    ensures { OnOk result (HasImported stands published base.now (forest_of (map entry_view entries.now.items)) found.old found.new) }
+    requires base { IsKnownBase (paths_of paths.old) base }
+    requires known { AreKnown (paths_of paths.old) found.old }
+    ensures imports { OnOk result (HasImported (paths_of paths.old) (paths_of paths.new) stands published base (forest_of (map entry_view entries.now.items)) found.old found.new) }
+    ensures known { OnOk result (AreKnown (paths_of paths.new) found.new) }
+    ensures grows { IsLonger (paths_of paths.old) (paths_of paths.new) }
 {
     for entry in entries {
-        add_entry(alloc, found, stands, published, base, entry)?;
+        add_entry(alloc, paths, found, stands, published, base, entry)?;
     }
     Ok(())
 }
 
 #[cycle(imports)]
-fn add_entry<'a>(
+fn add_entry(
     alloc: Global,
-    found: &mut Vec<Import<Target<'a>, Ident>>,
+    paths: &mut PathNumbers,
+    found: &mut Vec<Import<PathId, Ident>>,
     stands: Place,
     published: bool,
-    base: &Base<'a>,
+    base: Base,
     entry: &ImportEntry,
 ) -> Result<(), AllocError>
-    ensures { OnOk result (HasImported stands published base.now (before (entry_view entry.now) end) found.old found.new) }
+    requires base { IsKnownBase (paths_of paths.old) base }
+    requires known { AreKnown (paths_of paths.old) found.old }
+    ensures imports { OnOk result (HasImported (paths_of paths.old) (paths_of paths.new) stands published base (before (entry_view entry.now) end) found.old found.new) }
+    ensures known { OnOk result (AreKnown (paths_of paths.new) found.new) }
+    ensures grows { IsLonger (paths_of paths.old) (paths_of paths.new) }
 {
-    let inner = base.entered(alloc, &entry.path)?;
-    add_content(alloc, found, stands, published, inner, &entry.content)
+    let inner = entered(alloc, paths, base, &entry.path)?;
+    add_content(
+        alloc,
+        paths,
+        found,
+        stands,
+        published,
+        inner,
+        &entry.content,
+    )
 }
 
-fn add_item<'a>(
-    alloc: Global,
-    found: &mut Vec<Import<Target<'a>, Ident>>,
+/// Adds an item, whatever paths the numbers stand for.
+fn add_item(
+    found: &mut Vec<Import<PathId, Ident>>,
     stands: Place,
     published: bool,
-    base: Base<'a>,
+    base: Base,
     item: &ImportItem,
 ) -> Result<(), AllocError>
-    ensures { OnOk result (HasImported stands published base.entry (before (item_view item.now) end) found.old found.new) }
+    ensures imports { OnOk result (HasItem stands published base (before (item_view item.now) end) found.old found.new) }
+    ensures known { OnOk result (KeepsKnown base found.old found.new) }
 {
     let Base::At(path) = base else {
         return Ok(());

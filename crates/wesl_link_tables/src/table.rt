@@ -1,10 +1,9 @@
 //! The symbol table of a module.
-ghost use Rattle.std.specs.Prelude.{◌≡◌, ◌<◌, ◌++◌, ◌∷◌, [], suc, false, All, IfOk, IfSome, OnOk, length, get_or, map};
+ghost use Rattle.std.specs.Prelude.{◌≡◌, ◌<◌, ◌++◌, ◌∷◌, [], suc, false, IfOk, OnOk, length, get_or, map};
 ghost use Rattle.wesl_tree_names.specs.Path.{path_view, is_relative};
 ghost use Rattle.wesl_tree_syntax.specs.Unit.{name_in, spelled};
 ghost use Rattle.wesl_tree.specs.Translation.{unit_view};
 ghost use Rattle.wesl_scope_occurrences.specs.Pieces.{declarations_in};
-ghost use Rattle.wesl_link_tables.specs.Base.{target_path};
 ghost use Rattle.wesl_link_tables.specs.Marks.{AreMarked};
 ghost use Rattle.wesl_link_split.specs.Grouped.{ids};
 ghost use Rattle.wesl_link_split.specs.ScopeView.{scope_view};
@@ -12,13 +11,14 @@ ghost use Rattle.wesl_link_split.specs.SightView.{sight_view};
 ghost use Rattle.wesl_link_split.specs.Split as split;
 ghost use Rattle.wesl_link_tables.specs.Numbering.{AreRelated, IsNumberedImport, AreNumberedImports, IsNumberedScope, IsNumbered, Grows, NameAt, PathAt};
 ghost use Rattle.wesl_link_tables.specs.NumbersView.{numbering};
-ghost use Rattle.wesl_link_tables.specs.Parts.{HasNumber, declared_as, settled_in, table_made, with_alive, IsDeclared, IsKeptBy, IsNumberedUnit, IsScoped, IsUndeclared, IsUnnumbered};
+ghost use Rattle.wesl_link_tables.specs.Parts.{declared_as, settled_in, table_made, with_alive, IsDeclared, IsKeptBy, IsNumberedUnit, IsScoped, IsUndeclared, IsUnnumbered};
 ghost use Rattle.wesl_link_tables.specs.Reading.{AreNumbersOfNames, IsRead, IsNumberedBy, own_path, unit_in};
 ghost use Rattle.wesl_link_tables.specs.Spelling.{imports_at, spelled_in, spelled_import, spelled_imports};
 ghost use Rattle.wesl_link_tables.specs.Split.{alive_if, crowded_if, binders_by, declares_as, declared_from};
 ghost use Rattle.wesl_link_tables.specs.Tables.{scope_of, uses, table_at};
+ghost use Rattle.wesl_link_tables.specs.Walks.{HavePaths};
 
-use crate::imports::{Target, imports};
+use crate::imports::imports;
 use crate::marks::{Mark, Marked, mark_piece};
 use crate::numbers::{Numbers, spelling};
 use crate::reading::{Reading, add_ids, add_names};
@@ -34,7 +34,7 @@ use wesl_link_symbols::symbols::Import;
 use wesl_link_symbols::table::{Declaration, Table};
 use wesl_scope_meanings::senses_of;
 use wesl_tree::TranslationUnit;
-use wesl_tree_names::{Ident, ModulePath, Names, law_of_equality};
+use wesl_tree_names::{Ident, ModulePath, Names};
 
 /// A symbol table, and of each global declaration what its identifiers are, in document order.
 #[derive(Drop)]
@@ -61,45 +61,23 @@ fn number_of(
     }
 }
 
-/// The number of a path, which is not relative: where it equals the last one, the number of that.
-fn number_path(
-    alloc: Global,
-    numbers: &mut Numbers,
-    last: &Option<(&ModulePath, PathId)>,
-    path: &ModulePath,
-) -> Result<PathId, AllocError>
-    requires asked { is_relative (path_view path.now) ≡ false }
-    requires last { IfSome last.now (HasNumber (numbering numbers.old)) }
-    ensures numbered { IfOk result (λ p. PathAt (numbering numbers.new) p (path_view path.now)) }
-    ensures grows { Grows (numbering numbers.old) (numbering numbers.new) }
-{
-    law_of_equality();
-    if let Some((other, number)) = last {
-        if *other == path {
-            return Ok(*number);
-        }
-    }
-    numbers.path(alloc, path)
-}
-
-/// An import with numbers in place of names and of its path, which has this number, where the names have these numbers.
+/// An import with numbers in place of names, where the names have these numbers.
 fn number_import(
     numbers: &mut Numbers,
     names: &Names,
     ids: &[NameId],
-    import: &Import<Target<'_>, Ident>,
-    path: PathId,
+    import: &Import<PathId, Ident>,
 ) -> Result<Import<PathId, NameId>, AllocError>
-    requires path { PathAt (numbering numbers.old) path (target_path import.now.path) }
+    requires path { import.now.path.0 < length (numbering numbers.old).paths }
     requires ids { AreRelated (NameAt (numbering numbers.old)) ids.now names.now }
-    ensures numbered { IfOk result (λ i. IsNumberedImport (numbering numbers.new) i (spelled_import names.now import.now)) }
+    ensures numbered { IfOk result (λ i. IsNumberedImport (numbering numbers.new) i (spelled_import (numbering numbers.old).paths names.now import.now)) }
     ensures grows { Grows (numbering numbers.old) (numbering numbers.new) }
 {
     let bound = number_of(numbers, names, ids, import.bound)?;
     let item = number_of(numbers, names, ids, import.item)?;
     Ok(Import {
         bound,
-        path,
+        path: import.path,
         item,
         published: import.published,
         place: import.place,
@@ -108,29 +86,32 @@ fn number_import(
     })
 }
 
-/// Adds the imports with numbers in place of names and paths, where the names have these numbers.
+/// The import at an index.
+fn import_at(imports: &[Import<PathId, Ident>], index: usize) -> &Import<PathId, Ident>
+    requires { index < length imports.now }
+    ensures { result.now ≡ get_or imports.now index result.now }
+{
+    &imports[index]
+}
+
+/// Adds the imports with numbers in place of names, where the names have these numbers.
 fn add_imports(
-    alloc: Global,
     numbers: &mut Numbers,
     names: &Names,
     ids: &[NameId],
-    imports: &[Import<Target<'_>, Ident>],
+    imports: &[Import<PathId, Ident>],
     found: &mut Vec<Import<PathId, NameId>>,
 ) -> Result<(), AllocError>
-    requires asked { All (λ i. is_relative (target_path i.path) ≡ false) imports.now }
+    requires paths { HavePaths (numbering numbers.old).paths imports.now }
     requires ids { AreRelated (NameAt (numbering numbers.old)) ids.now names.now }
     requires empty { found.old.items ≡ [] }
-    ensures numbered { OnOk result (AreNumberedImports (numbering numbers.new) found.new.items (spelled_imports names.now imports.now)) }
+    ensures numbered { OnOk result (AreNumberedImports (numbering numbers.new) found.new.items (spelled_imports (numbering numbers.old).paths names.now imports.now)) }
     ensures grows { Grows (numbering numbers.old) (numbering numbers.new) }
 {
     found.reserve_exact(imports.len())?;
-    let mut last: Option<(&ModulePath, PathId)> = None;
-    for import in imports {
-        let target = import.path.path();
-        let path = number_path(alloc, numbers, &last, target)?;
-        let number = number_import(numbers, names, ids, import, path)?;
+    for i in 0..imports.len() {
+        let number = number_import(numbers, names, ids, import_at(imports, i))?;
         found.push(number)?;
-        last = Some((target, path));
     }
     Ok(())
 }
@@ -226,20 +207,18 @@ impl UnitNumbers {
 
 /// Numbers a unit, which has these imports.
 fn number_unit(
-    alloc: Global,
     numbers: &mut Numbers,
     unit: &TranslationUnit,
-    imports: &[Import<Target<'_>, Ident>],
+    imports: &[Import<PathId, Ident>],
     numbered: &mut UnitNumbers,
 ) -> Result<(), AllocError>
-    requires asked { All (λ i. is_relative (target_path i.path) ≡ false) imports.now }
+    requires paths { HavePaths (numbering numbers.old).paths imports.now }
     requires empty { IsUnnumbered numbered.old }
-    ensures numbered { OnOk result (IsNumberedUnit (numbering numbers.new) (spelled_in unit.now imports.now) (unit_view unit.now) numbered.new) }
+    ensures numbered { OnOk result (IsNumberedUnit (numbering numbers.new) (spelled_in (numbering numbers.old).paths unit.now imports.now) (unit_view unit.now) numbered.new) }
     ensures grows { Grows (numbering numbers.old) (numbering numbers.new) }
 {
     add_ids(numbers, unit.names(), &mut numbered.ids)?;
     add_imports(
-        alloc,
         numbers,
         unit.names(),
         &numbered.ids,
@@ -590,8 +569,8 @@ pub fn table_of(
     ensures path { IfOk result (λ t. t.table.path ≡ id) }
     ensures grows { Grows (numbering numbers.old) (numbering numbers.new) }
 {
-    let imports = imports(alloc, path, unit.imports())?;
+    let imports = imports(alloc, &mut numbers.paths, path, unit.imports())?;
     let mut numbered = UnitNumbers::new(alloc);
-    number_unit(alloc, numbers, unit, &imports, &mut numbered)?;
+    number_unit(numbers, unit, &imports, &mut numbered)?;
     tabled_of(alloc, numbers, id, path, unit, &numbered)
 }

@@ -1,7 +1,8 @@
 use Rattle.std.proofs.Common.{refl}
-use Rattle.wesl_link_tables.specs.Base.{target_path}
+use Rattle.wesl_tree_names.specs.Path.{root_path}
 use Rattle.wesl_link_tables.specs.NumbersView.{numbering}
 use Rattle.wesl_link_tables.specs.Numbering.{Grows}
+use Rattle.wesl_link_tables.proofs.Known.{below_held}
 use Rattle.wesl_link_tables.proofs.Related.{grows_trans, name_later, names_later, path_later}
 use Rattle.wesl_link_tables.proofs.table.number_import.Goals as goal
 
@@ -22,7 +23,7 @@ returns-clause-numbered c =
     let grows : Grows given there = grows_trans given bound_there there c.number_of.ensures.grows c.number_of-2.ensures.grows in
     record {
       bound = name_later bound_there there c.number_of-2.ensures.grows c.in_ok-bound.bound _ c.in_ok-bound.ensures.numbered;
-      path = path_later given there grows c.args.path (target_path c.args.import.now.path) c.requires.path;
+      path = path_later given there grows c.args.import.now.path _ (below_held given.paths c.args.import.now.path.0 root_path c.requires.path);
       item = c.in_ok-item.ensures.numbered;
       published = refl;
       place = refl;
