@@ -1,0 +1,9 @@
+pub mod Absorbed
+pub mod Kept
+pub mod Listed
+pub mod Operands
+pub mod Parts
+pub mod Respelled
+pub mod Untouched
+pub mod Whole
+pub mod Texts
