@@ -1,6 +1,6 @@
 -- What is printed for a statement, a directive and an import ends with `;` or `}`: behind it no list can be open.
 use Rattle.std.proofs.Common.{◌≡◌, zero, suc, Bool, true, false, not, ◌&&◌, if◌then◌else◌, List, [], ◌∷◌, ◌++◌, Option, Some, None, option_map, option_and_then, refl, sym as turned, ap, ◌∙◌, codes}
-use Rattle.wesl_tree_syntax.specs.Tree.{Kind, kind, at, unary, binary, assignment, space, access, end, tree, present, absent, list, expression_node, statement_node, attribute_node, member_node, import_node, directive_node, declaration_node}
+use Rattle.wesl_tree_syntax.specs.Tree.{Kind, kind, at, unary, binary, assignment, space, access, end, tree, present, absent, list, statement_node, import_node, directive_node}
 use Rattle.wesl_tree_syntax.specs.Kinds.{same_kind}
 use Rattle.wesl_tree_syntax.specs.declared.statement.AssignmentOperator.TheVariants as assignment_operator
 use Rattle.wesl_text_tokens.specs.declared.symbol.Symbol.TheVariants as is

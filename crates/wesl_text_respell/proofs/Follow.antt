@@ -1,20 +1,19 @@
 -- What is printed for trees with other names, node by node.
-use Rattle.std.proofs.Common.{◌≡◌, ◌⊎◌, zero, suc, Bool, true, false, not, ◌&&◌, ◌||◌, if◌then◌else◌, List, [], ◌∷◌, ◌++◌, Option, Some, None, option_and_then, refl, sym as turned, inl, inr, ap, ap₂, ◌∙◌, subst, codes, bytes_eq}
+use Rattle.std.proofs.Common.{◌≡◌, ◌⊎◌, zero, Bool, true, false, not, ◌&&◌, ◌||◌, if◌then◌else◌, [], ◌∷◌, ◌++◌, Option, Some, None, option_and_then, refl, sym as turned, inl, inr, ap, ap₂, ◌∙◌, subst, codes}
 use Rattle.std.proofs.lemmas.Slice.Eq.{bytes_eq-Decides}
 use Rattle.wesl_tree_names.specs.Path.{Text, Path}
-use Rattle.wesl_tree_syntax.specs.Tree.{Kind, Role, kind, at, ident, path, end, tree, reference, present, absent, list, type_expression, type_or_identifier, expression_node}
-use Rattle.wesl_tree_syntax.specs.Kinds.{same_kind}
-use Rattle.wesl_text_form.specs.Names.{is_name, is_word, is_free, is_path}
+use Rattle.wesl_tree_syntax.specs.Tree.{Role, kind, at, ident, path, end, tree, reference, present, absent, list, type_expression, type_or_identifier, expression_node}
+use Rattle.wesl_text_form.specs.Names.{is_name, is_word, is_path}
 use Rattle.wesl_text_form.specs.Operators.{class_of, is_tight}
 use Rattle.wesl_text_form.specs.Productions.{Sort, an_expression, a_type, an_argument, Leaf, an_ident, a_path, Row, nothing, opens, closes, leaf, commas, optional, row_of}
 use Rattle.wesl_text_form.specs.Spelling.{Label, Forest, Slots, spells, followed, provided, named, stepped, origin_slots, leaf_slots, first_slots, fits, stands_as, label_at, below_first, from_place, is_kind, is_underscore, is_wildcard, leads_to_place, is_end, is_empty_at, is_absent_at}
-use Rattle.wesl_text_reading.proofs.Filled.{no_some, of_some, no_true}
+use Rattle.wesl_text_reading.proofs.Filled.{no_some, no_true}
 use Rattle.wesl_text_reading.proofs.KindsAgain.{label_is}
 use Rattle.wesl_text_respell.specs.Respelled.{MayBecome, IsRespelled, ends, same, renamed, unqualified}
 use Rattle.wesl_text_respell.proofs.Kept.{end_kept, kind_kept, class_kept, leads_kept, lone_kept, fits_kept, stands_kept, type_kept}
-use Rattle.wesl_text_respell.proofs.Related.{IsLike, none, other, like_self, Follows, follows_self, follows_joined, follows_either}
+use Rattle.wesl_text_respell.proofs.Related.{none, other, like_self, Follows, follows_self, follows_either}
 use Rattle.wesl_text_respell.proofs.Leaves.{leaf_kept, leaf_renamed, path_gone, ident_begins}
-use Rattle.wesl_text_respell.proofs.Trees.{is_fair, rows_fair, TreesFollow, none_follow, place, tree_follows}
+use Rattle.wesl_text_respell.proofs.Trees.{rows_fair, TreesFollow, none_follow, place, tree_follows}
 
 -- ---- nodes
 

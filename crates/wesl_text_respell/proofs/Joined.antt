@@ -1,5 +1,5 @@
 -- Tokens behind others, behind which nothing is pending, are meant exactly where both are meant alone.
-use Rattle.std.proofs.Common.{◌≡◌, ◌≤◌, ◌<◌, ℕ, suc, Bool, true, false, List, [], ◌∷◌, ◌++◌, refl, sym as turned, ap, ◌∙◌, subst, arith}
+use Rattle.std.proofs.Common.{◌≡◌, ◌≤◌, ◌<◌, ℕ, suc, false, List, [], ◌∷◌, ◌++◌, refl, sym as turned, ap, ◌∙◌, subst, arith}
 use Rattle.wesl_text_tokens.specs.Characters.{is_one_of}
 use Rattle.wesl_text_tokens.specs.Symbols.{symbol_text}
 use Rattle.wesl_text_tokens.specs.Pieces.{Bit}
@@ -12,7 +12,7 @@ use Rattle.wesl_text_writable.proofs.KnownApart.{before_joined, known_apart}
 use Rattle.wesl_text_writable.proofs.Quiet.{mark_first}
 use Rattle.wesl_text_writable.proofs.MadeApart.{AllBracketed, AreMeant}
 use Rattle.wesl_text_writable.proofs.LeftOut.{number_of, state, SameBrackets, names_forgotten, unmarked_first, done_here}
-use Rattle.wesl_text_respell.proofs.Inside.{Leads, leads_end}
+use Rattle.wesl_text_respell.proofs.Inside.{leads_end}
 use Rattle.wesl_text_respell.proofs.Rests.{unknown, rests, rest_behind, Rests, leads_tokens, rests_behind}
 use Rattle.wesl_text_respell.proofs.Moved.{on, on_suc, on_zero, on_le, all_on, among_on, less_on, moved, known_moved}
 

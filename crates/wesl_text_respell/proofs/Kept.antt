@@ -1,6 +1,6 @@
 -- What is asked of trees beside their rows is the same of trees with other names.
-use Rattle.std.proofs.Common.{◌≡◌, ℕ, zero, suc, Bool, true, false, not, ◌&&◌, ◌||◌, Some, None, refl, sym as turned, ap, ap₂, ◌∙◌}
-use Rattle.wesl_tree_syntax.specs.Tree.{Kind, kind, at, ident, text, unary, binary, assignment, end, tree, absent, custom, type_or_identifier, type_expression, named_component, indexing, parenthesized, increment, decrement, declaration, switch_clause, for_loop, workgroup_size, default_case, override_kind, let_kind, var_kind}
+use Rattle.std.proofs.Common.{◌≡◌, ℕ, zero, suc, false, not, ◌&&◌, ◌||◌, Some, refl, sym as turned, ap, ap₂, ◌∙◌}
+use Rattle.wesl_tree_syntax.specs.Tree.{Kind, kind, at, ident, unary, binary, assignment, end, tree, absent, custom, type_or_identifier, type_expression, named_component, indexing, parenthesized, increment, decrement, declaration, switch_clause, for_loop, workgroup_size, default_case, override_kind, let_kind, var_kind}
 use Rattle.wesl_tree_syntax.specs.declared.statement.AssignmentOperator.TheVariants as assignment_operator
 use Rattle.wesl_text_form.specs.Operators.{primary, same_class, class_of, operator_class, is_tight, takes_left, takes_right, is_place_operator}
 use Rattle.wesl_text_form.specs.Productions.{Sort, a_bare_statement}

@@ -1,5 +1,5 @@
 -- Leaves with other names, and paths before names.
-use Rattle.std.proofs.Common.{◌≡◌, ◌⊎◌, zero, suc, Bool, true, false, ◌&&◌, if◌then◌else◌, List, [], ◌∷◌, ◌++◌, Option, Some, None, refl, sym as turned, inl, inr, ap, ◌∙◌, subst, append_assoc, codes}
+use Rattle.std.proofs.Common.{◌≡◌, zero, suc, Bool, true, false, ◌&&◌, if◌then◌else◌, List, [], ◌∷◌, ◌++◌, Some, None, refl, sym as turned, inl, inr, ap, ◌∙◌, subst, codes}
 use Rattle.wesl_tree_base.specs.Pieces.{supers}
 use Rattle.wesl_tree_names.specs.Path.{Text, Path, Origin, absolute, relative, from_package}
 use Rattle.wesl_tree_syntax.specs.Tree.{Role, binder, word, ident, text, texts, truth, path, absent, end, tree}
@@ -9,8 +9,7 @@ use Rattle.wesl_text_tokens.specs.Tokens.{name}
 use Rattle.wesl_text_form.specs.Slots.{Slot, must}
 use Rattle.wesl_text_form.specs.Names.{is_name, is_path}
 use Rattle.wesl_text_form.specs.Productions.{Leaf, an_ident, an_item, a_name, a_word, a_custom, a_literal, a_rule, some_words, one_or_two, steps, a_path, Row, leaf}
-use Rattle.wesl_text_form.specs.Spelling.{Label, Forest, Slots, spells, followed, provided, named, signed, stepped, origin_slots, is_kind, label_at, is_end, item_role, leaf_slots}
-use Rattle.wesl_text_reading.proofs.Filled.{no_some, of_some}
+use Rattle.wesl_text_form.specs.Spelling.{Label, Forest, Slots, spells, followed, provided, named, signed, stepped, origin_slots, is_end, item_role, leaf_slots}
 use Rattle.wesl_text_respell.specs.Respelled.{MayBecome, IsRespelled}
 use Rattle.wesl_text_respell.proofs.Kept.{kind_kept}
 use Rattle.wesl_text_respell.proofs.Related.{IsLike, none, other, like_stepped, Follows}

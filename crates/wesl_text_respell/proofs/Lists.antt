@@ -1,5 +1,5 @@
 -- The brackets of lists stand in pairs in what is printed for types and expressions.
-use Rattle.std.proofs.Common.{◌≡◌, ◌⊎◌, ℕ, zero, suc, Bool, true, false, not, ◌&&◌, ◌||◌, ◌==◌, if◌then◌else◌, List, [], ◌∷◌, ◌++◌, length, Option, Some, None, option_map, option_and_then, refl, sym as turned, ap, ◌∙◌, subst, codes, eqb-true}
+use Rattle.std.proofs.Common.{◌≡◌, ℕ, zero, suc, Bool, true, false, ◌&&◌, if◌then◌else◌, List, [], ◌∷◌, ◌++◌, Option, Some, None, option_map, option_and_then, refl, sym as turned, ap, ◌∙◌, codes}
 use Rattle.wesl_tree_base.specs.Pieces.{supers}
 use Rattle.wesl_tree_names.specs.Path.{Text, Origin, absolute, relative, from_package}
 use Rattle.wesl_tree_syntax.specs.Tree.{Kind, Role, kind, at, ident, text, truth, path, unary, binary, assignment, space, access, end, tree, present, absent, expression_node}
@@ -10,15 +10,15 @@ use Rattle.wesl_tree_syntax.specs.declared.expression.BinaryOperator.{BinaryOper
 use Rattle.wesl_tree_syntax.specs.declared.expression.BinaryOperator.TheVariants as binary_operator
 use Rattle.wesl_text_tokens.specs.declared.symbol.Symbol.{Symbol}
 use Rattle.wesl_text_tokens.specs.declared.symbol.Symbol.TheVariants as is
-use Rattle.wesl_text_tokens.specs.Tokens.{Token, name, number, symbol, open_list, close_list}
+use Rattle.wesl_text_tokens.specs.Tokens.{name, number, symbol, open_list, close_list}
 use Rattle.wesl_text_form.specs.Slots.{Slot, must, may, alone, fewest}
 use Rattle.wesl_text_form.specs.Names.{is_name, is_number, is_path}
 use Rattle.wesl_text_form.specs.Operators.{unary_symbol, binary_symbol}
 use Rattle.wesl_text_form.specs.Productions.{Sort, an_expression, a_bare_expression, a_bare_statement, a_statement, an_attribute, a_member, an_import, a_directive, a_declaration, a_space, an_access, a_call, a_type, an_argument, Leaf, an_ident, a_name, a_literal, a_path, Row, nothing, sym, may_sym, says, opens, closes, own, leaf, commas, optional, rows_of, row_of, spanned}
-use Rattle.wesl_text_form.specs.Spelling.{Label, Forest, Slots, spells, followed, provided, named, signed, stepped, parted, trailing, package_words, origin_slots, leaf_slots, first_slots, row_slots, row_of_none, with_comma, fits, stands_as, is_kind, is_end}
+use Rattle.wesl_text_form.specs.Spelling.{Label, Forest, Slots, spells, followed, provided, named, signed, stepped, trailing, origin_slots, leaf_slots, first_slots, row_slots, row_of_none, with_comma, fits, stands_as, is_kind, is_end}
 use Rattle.wesl_text_reading.proofs.Filled.{no_some, of_some, no_true}
 use Rattle.wesl_text_reading.proofs.Takes.{and_parts, all_rows, at_rows}
-use Rattle.wesl_text_respell.proofs.Rests.{Rest, unknown, rests, inside, rest_step, rest_behind}
+use Rattle.wesl_text_respell.proofs.Rests.{Rest, rests, inside, rest_step, rest_behind}
 use Rattle.wesl_text_respell.proofs.Moved.{on}
 
 -- ---- what is told behind slots

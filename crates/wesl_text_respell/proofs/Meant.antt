@@ -1,5 +1,5 @@
 -- Tokens with other names, and without steps of paths, are meant as before.
-use Rattle.std.proofs.Common.{◌≡◌, ℕ, suc, Bool, true, false, not, ◌&&◌, if◌then◌else◌, List, [], ◌∷◌, ◌++◌, Option, None, refl, sym as turned, ap, ◌∙◌, subst, append_assoc, codes}
+use Rattle.std.proofs.Common.{◌≡◌, ℕ, Bool, true, false, not, ◌&&◌, if◌then◌else◌, List, [], ◌∷◌, ◌++◌, Option, None, refl, sym as turned, ap, ◌∙◌, subst, append_assoc, codes}
 use Rattle.wesl_tree_names.specs.Path.{Text}
 use Rattle.wesl_text_tokens.specs.declared.symbol.Symbol.{Symbol}
 use Rattle.wesl_text_tokens.specs.declared.symbol.Symbol.TheVariants as is
@@ -7,7 +7,7 @@ use Rattle.wesl_text_tokens.specs.Pieces.{Bit}
 use Rattle.wesl_text_tokens.specs.Brackets.{Known, nothing_known, brackets, known_from}
 use Rattle.wesl_text_tokens.specs.Tokens.{Token, name, number, symbol, open_list, close_list, tokens_of_bits}
 use Rattle.wesl_text_tokens.proofs.SymbolTexts.{each}
-use Rattle.wesl_text_form.specs.Slots.{Slot, must, may, alone, slot_tokens, fewest}
+use Rattle.wesl_text_form.specs.Slots.{Slot, must, may, alone, fewest}
 use Rattle.wesl_text_form.specs.Says.{token_bits, bits_apart}
 use Rattle.wesl_text_reading.proofs.Filled.{no_true}
 use Rattle.wesl_text_reading.proofs.Takes.{and_parts}

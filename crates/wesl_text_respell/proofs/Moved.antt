@@ -5,7 +5,6 @@ use Rattle.wesl_tree_names.specs.Path.{Text}
 use Rattle.wesl_text_tokens.specs.Characters.{is_one_of}
 use Rattle.wesl_text_tokens.specs.Pieces.{What, a_name, a_number, a_sign, Bit}
 use Rattle.wesl_text_tokens.specs.Brackets.{Known, outside, sign_behind, at_greater, at_less, at_sign, at_what, known_behind, known_from}
-use Rattle.wesl_text_writable.proofs.Grouped.{number_behind}
 
 -- the number of a piece behind so many others
 abbrev pub on : ℕ → ℕ → ℕ
@@ -115,7 +114,3 @@ module _ (n : ℕ) (os cs : List ℕ) where
   known_moved [] i k = refl
   known_moved (b ∷ bs) i k =
       ap₂ (λ j z. known_from j z bs) (turned (on_suc n i)) (step_moved i (sign_behind bs) b.what k) ∙ known_moved bs (suc i) (known_behind i b.what (sign_behind bs) k)
-
-pub behind_on : (n : ℕ) (bs : List Bit) (i : ℕ) → number_behind (on n i) bs ≡ on n (number_behind i bs)
-behind_on n [] i = refl
-behind_on n (b ∷ bs) i = ap (λ z. number_behind z bs) (turned (on_suc n i)) ∙ behind_on n bs (suc i)

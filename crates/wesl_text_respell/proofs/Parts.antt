@@ -1,15 +1,15 @@
 -- Behind an import, a directive and a declaration nothing is pending.
-use Rattle.std.proofs.Common.{◌≡◌, ◌⊎◌, zero, suc, Bool, true, false, ◌&&◌, if◌then◌else◌, List, [], ◌∷◌, Option, Some, None, option_map, refl, sym as turned, inl, inr, ap, ◌∙◌, subst, codes}
+use Rattle.std.proofs.Common.{◌≡◌, ◌⊎◌, zero, suc, Bool, true, false, ◌&&◌, if◌then◌else◌, List, [], ◌∷◌, Some, None, option_map, refl, inl, inr, ap, subst, codes}
 use Rattle.wesl_tree_syntax.specs.Tree.{Kind, kind, at, end, tree, reference, binder, present, absent, list, members, attributes, member_node, declaration_node, member, type_expression}
 use Rattle.wesl_tree_syntax.specs.Kinds.{same_kind}
 use Rattle.wesl_text_tokens.specs.declared.symbol.Symbol.TheVariants as is
-use Rattle.wesl_text_tokens.specs.Tokens.{Token, name, symbol, open_list, close_list}
+use Rattle.wesl_text_tokens.specs.Tokens.{Token, name, symbol, open_list}
 use Rattle.wesl_text_form.specs.Slots.{Slot, must, may, alone}
-use Rattle.wesl_text_form.specs.Productions.{Sort, an_argument, a_type, a_member, a_bare_member, an_attribute, an_import, a_directive, a_declaration, a_bare_declaration, an_ident, a_name, a_path, Row, Rows, nothing, sym, says, opens, closes, own, leaf, run, commas, optional, attrs, rows_of_type, rows_of_bare_member, rows_of_bare_declaration, row_at, row_of, spanned}
-use Rattle.wesl_text_form.specs.Spelling.{Label, Forest, Slots, spells, followed, named, signed, trailing, leaf_slots, first_slots, with_comma, is_kind, is_end}
+use Rattle.wesl_text_form.specs.Productions.{Sort, an_argument, a_type, a_member, a_bare_member, an_attribute, an_import, a_directive, a_declaration, a_bare_declaration, an_ident, a_name, a_path, Row, Rows, nothing, sym, says, opens, closes, own, leaf, commas, optional, attrs, rows_of_bare_declaration, row_at, row_of, spanned}
+use Rattle.wesl_text_form.specs.Spelling.{Label, Forest, Slots, spells, followed, named, signed, trailing, leaf_slots, first_slots, is_kind, is_end}
 use Rattle.wesl_text_reading.proofs.Filled.{no_some, of_some, no_true}
 use Rattle.wesl_text_respell.proofs.Ended.{closed_by, ended, are_ended, row_ends, rows_are_ended, nodes_are_ended}
-use Rattle.wesl_text_respell.proofs.Rests.{Rest, unknown, rests, inside, rest_step, rest_behind}
+use Rattle.wesl_text_respell.proofs.Rests.{Rest, rests, inside, rest_step}
 use Rattle.wesl_text_respell.proofs.Lists.{rest_slots, Comes, comes_joined, comes_behind, comes_either, comes_trailing, comes_node, path_rests, ident_rests, separate_inside}
 
 -- ---- what ends with `;` or `}`

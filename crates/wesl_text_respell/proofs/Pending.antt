@@ -1,10 +1,10 @@
 -- What may still open a list: each `<` once, the newest first, and none that has opened one.
-use Rattle.std.proofs.Common.{◌≡◌, ◌≤◌, ◌<◌, ℕ, suc, ◌-◌, Bool, true, false, ◌&&◌, ◌||◌, ◌==◌, if◌then◌else◌, List, [], ◌∷◌, refl, ap₂, codes, bytes_eq, nat_lt, arith}
+use Rattle.std.proofs.Common.{◌≡◌, ◌≤◌, ◌<◌, ℕ, suc, ◌-◌, Bool, true, false, ◌&&◌, ◌||◌, ◌==◌, if◌then◌else◌, List, [], ◌∷◌, ap₂, codes, bytes_eq, nat_lt, arith}
 use Rattle.std.proofs.lemmas.Bool.{ne_eqb}
 use Rattle.wesl_tree_names.specs.Path.{Text}
 use Rattle.wesl_text_tokens.specs.Characters.{is_one_of}
-use Rattle.wesl_text_tokens.specs.Pieces.{What, a_name, a_number, a_sign, Bit}
-use Rattle.wesl_text_tokens.specs.Brackets.{Known, outside, sign_behind, at_greater, at_less, at_sign, at_what, known_behind, known_from}
+use Rattle.wesl_text_tokens.specs.Pieces.{What, a_name, a_number, a_sign}
+use Rattle.wesl_text_tokens.specs.Brackets.{Known, outside, at_greater, at_less, at_sign, at_what, known_behind}
 use Rattle.wesl_text_writable.proofs.Fresh.{either_is}
 
 -- they stand before a place, each before the one that is newer

@@ -1,10 +1,10 @@
 -- Slots that are those of others, with other names and without the steps of some paths.
-use Rattle.std.proofs.Common.{◌≡◌, Bool, true, false, List, [], ◌∷◌, ◌++◌, Some, None, option_map, if◌then◌else◌, refl, sym as turned, ap, subst}
+use Rattle.std.proofs.Common.{◌≡◌, Bool, true, false, List, [], ◌∷◌, ◌++◌, Some, None, option_map, if◌then◌else◌, refl, sym as turned, subst}
 use Rattle.wesl_tree_names.specs.Path.{Text}
 use Rattle.wesl_text_tokens.specs.declared.symbol.Symbol.TheVariants as is
 use Rattle.wesl_text_tokens.specs.Tokens.{name, symbol}
 use Rattle.wesl_text_form.specs.Slots.{Slot, must, may}
-use Rattle.wesl_text_form.specs.Spelling.{Slots, followed, named, signed, stepped, trailing, without_last}
+use Rattle.wesl_text_form.specs.Spelling.{Slots, followed, signed, stepped, trailing, without_last}
 use Rattle.wesl_text_reading.proofs.Filled.{no_true}
 use Rattle.wesl_text_respell.proofs.Ended.{closed_by, ended, are_ended}
 

@@ -1,11 +1,10 @@
 -- Behind what tokens nothing is pending, and no parenthesis is open.
-use Rattle.std.proofs.Common.{◌≡◌, ◌<◌, ℕ, zero, suc, Bool, true, false, ◌&&◌, ◌||◌, ◌==◌, if◌then◌else◌, List, [], ◌∷◌, ◌++◌, refl, sym as turned, inl, inr, ap, ◌∙◌, subst, codes, eqb-true, arith}
+use Rattle.std.proofs.Common.{◌≡◌, ℕ, zero, suc, Bool, true, false, ◌&&◌, ◌||◌, ◌==◌, if◌then◌else◌, List, [], ◌∷◌, ◌++◌, refl, sym as turned, ap, ◌∙◌, subst, eqb-true, arith}
 use Rattle.std.proofs.lemmas.Bool.{eq-eqb}
 use Rattle.wesl_text_tokens.specs.declared.symbol.Symbol.TheVariants as is
 use Rattle.wesl_text_tokens.specs.Characters.{is_one_of}
 use Rattle.wesl_text_tokens.specs.Symbols.{symbol_text}
-use Rattle.wesl_text_tokens.specs.Pieces.{a_sign}
-use Rattle.wesl_text_tokens.specs.Brackets.{Known, nothing_known, at_greater, known_behind, known_from}
+use Rattle.wesl_text_tokens.specs.Brackets.{Known, nothing_known, at_greater, known_from}
 use Rattle.wesl_text_tokens.specs.Tokens.{Token, name, number, symbol, open_list, close_list}
 use Rattle.wesl_text_form.specs.Says.{sign_bits, token_bits}
 use Rattle.wesl_text_reading.proofs.Filled.{no_true}
@@ -43,10 +42,6 @@ rest_step r t = unknown
 abbrev pub rest_behind : Rest → List Token → Rest
 rest_behind r [] = r
 rest_behind r (t ∷ ts) = rest_behind (rest_step r t) ts
-
-pub rest_joined : (ts us : List Token) (r : Rest) → rest_behind r (ts ++ us) ≡ rest_behind (rest_behind r ts) us
-rest_joined [] us r = refl
-rest_joined (t ∷ ts) us r = rest_joined ts us (rest_step r t)
 
 -- nothing is pending, and no parenthesis is open
 abbrev pub Rests : Known → Type 0

@@ -1,25 +1,19 @@
 -- What is printed for trees with other names is like what is printed for the trees.
-use Rattle.std.proofs.Common.{◌≡◌, ◌⊎◌, zero, suc, Bool, true, false, not, ◌&&◌, ◌||◌, if◌then◌else◌, List, [], ◌∷◌, ◌++◌, Option, Some, None, option_map, option_and_then, refl, sym as turned, inl, inr, ap, ap₂, ◌∙◌, subst, codes, bytes_eq}
-use Rattle.std.proofs.lemmas.Slice.Eq.{bytes_eq-Decides}
-use Rattle.wesl_tree_names.specs.Path.{Text, Path}
-use Rattle.wesl_tree_syntax.specs.Tree.{Kind, Role, kind, at, ident, path, unary, binary, assignment, space, access, end, tree, reference, present, absent, list, type_expression, type_or_identifier, expression_node, statement_node, attribute_node, member_node, import_node, directive_node, declaration_node}
+use Rattle.std.proofs.Common.{◌≡◌, zero, suc, Bool, true, false, not, ◌&&◌, if◌then◌else◌, [], ◌∷◌, Some, None, option_map, refl, sym as turned, ap, ap₂, subst, codes}
+use Rattle.wesl_tree_syntax.specs.Tree.{Kind, kind, at, unary, binary, assignment, space, access, end, tree, present, absent, list, type_expression, expression_node, statement_node, attribute_node, member_node, import_node, directive_node, declaration_node}
 use Rattle.wesl_tree_syntax.specs.Kinds.{same_kind}
 use Rattle.wesl_tree_syntax.specs.declared.statement.AssignmentOperator.TheVariants as assignment_operator
 use Rattle.wesl_text_tokens.specs.declared.symbol.Symbol.TheVariants as is
 use Rattle.wesl_text_tokens.specs.Tokens.{symbol, open_list, close_list}
 use Rattle.wesl_text_form.specs.Slots.{must, may, alone}
-use Rattle.wesl_text_form.specs.Names.{is_name, is_word, is_free}
 use Rattle.wesl_text_form.specs.Operators.{class_of, is_tight}
-use Rattle.wesl_text_form.specs.Productions.{Sort, an_expression, a_bare_expression, a_type, an_argument, an_attribute, a_bare_attribute, a_space, an_access, an_import, a_bare_import, a_directive, a_bare_directive, a_member, a_bare_member, a_statement, a_bare_statement, a_declaration, a_bare_declaration, a_selector, Leaf, an_ident, a_path, Row, nothing, sym, may_sym, says, opens, closes, own, leaf, run, commas, optional, inside, target, selectors, unended, arrow, rows_of, row_of, spanned}
-use Rattle.wesl_text_form.specs.Spelling.{Label, Forest, Slots, spells, followed, provided, named, signed, trailing, leaf_slots, first_slots, row_slots, row_of_none, with_comma, fits, stands_as, label_at, is_kind, is_underscore, is_wildcard, leads_to_place, is_lone_default, is_end, is_absent_at, without_last}
+use Rattle.wesl_text_form.specs.Productions.{Sort, an_expression, a_bare_expression, an_attribute, a_bare_attribute, a_space, an_access, an_import, a_bare_import, a_directive, a_bare_directive, a_member, a_bare_member, a_statement, a_bare_statement, a_declaration, a_bare_declaration, a_selector, Leaf, Row, nothing, sym, may_sym, says, opens, closes, own, leaf, run, commas, optional, inside, target, selectors, unended, arrow, rows_of, row_of, spanned}
+use Rattle.wesl_text_form.specs.Spelling.{Label, Forest, Slots, spells, followed, named, signed, trailing, leaf_slots, first_slots, row_slots, row_of_none, with_comma, label_at, is_kind, is_wildcard, leads_to_place, is_lone_default, is_end, is_absent_at, without_last}
 use Rattle.wesl_text_reading.proofs.Filled.{no_some, of_some, no_true}
 use Rattle.wesl_text_reading.proofs.Takes.{and_parts, at_rows}
-use Rattle.wesl_text_reading.proofs.KindsAgain.{label_is}
-use Rattle.wesl_text_respell.specs.Respelled.{MayBecome, IsRespelled, ends, same, renamed, unqualified}
-use Rattle.wesl_text_respell.proofs.Kept.{end_kept, kind_kept, class_kept, leads_kept, lone_kept, fits_kept, stands_kept, type_kept}
-use Rattle.wesl_text_respell.proofs.Ended.{are_ended, nodes_are_ended}
-use Rattle.wesl_text_respell.proofs.Related.{IsLike, none, as_is, other, like_self, Follows, follows_self, follows_joined, follows_trailing, follows_comma, follows_cut, follows_either}
-use Rattle.wesl_text_respell.proofs.Leaves.{leaf_kept, leaf_renamed, path_gone, ident_begins}
+use Rattle.wesl_text_respell.specs.Respelled.{IsRespelled, ends, same, renamed, unqualified}
+use Rattle.wesl_text_respell.proofs.Ended.{nodes_are_ended}
+use Rattle.wesl_text_respell.proofs.Related.{none, like_self, Follows, follows_self, follows_joined, follows_trailing, follows_comma, follows_cut, follows_either}
 
 -- ---- which rows
 

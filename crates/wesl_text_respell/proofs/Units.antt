@@ -1,24 +1,24 @@
 -- A unit is writable exactly where each of its parts is.
-use Rattle.std.proofs.Common.{◌≡◌, ◌<◌, ℕ, zero, suc, Bool, true, false, ◌&&◌, if◌then◌else◌, List, [], ◌∷◌, ◌++◌, length, Option, Some, None, is_some, refl, sym as turned, ap, ◌∙◌, subst, append_assoc, arith, get_or}
+use Rattle.std.proofs.Common.{◌≡◌, ◌<◌, ℕ, zero, suc, Bool, true, false, if◌then◌else◌, List, [], ◌∷◌, ◌++◌, length, Some, None, is_some, refl, sym as turned, ap, ◌∙◌, subst, append_assoc, arith, get_or}
 use Rattle.std.specs.List.{Contains}
 use Rattle.wesl_tree_names.specs.Path.{Text}
-use Rattle.wesl_tree_syntax.specs.Tree.{Kind, kind, TreeOf, end, tree, trees, imports, directive_list, declarations}
-use Rattle.wesl_tree_syntax.specs.Unit.{UnitOf, forest_of_unit}
+use Rattle.wesl_tree_syntax.specs.Tree.{kind, TreeOf, end, tree, trees, imports, directive_list, declarations}
+use Rattle.wesl_tree_syntax.specs.Unit.{UnitOf}
 use Rattle.wesl_text_form.specs.Slots.{Slot, must, may, alone, slot_tokens, fewest}
 use Rattle.wesl_text_form.specs.Productions.{Sort, an_import, a_directive, a_declaration, Row, nothing, run}
 use Rattle.wesl_text_form.specs.Spelling.{Label, Forest, Slots, spells, followed, first_slots, is_kind, slots, unit_row}
 use Rattle.wesl_text_form.specs.Says.{IsWritable, spelling_as}
-use Rattle.wesl_text_reading.proofs.Filled.{no_some, no_true}
+use Rattle.wesl_text_reading.proofs.Filled.{no_true}
 use Rattle.wesl_text_reading.proofs.KindsAgain.{label_is}
 use Rattle.wesl_text_writable.proofs.Quiet.{mark_first, filled_is}
-use Rattle.wesl_text_writable.proofs.Clear.{is_clear_before, is_hard_before, are_hard, are_clear, clear_filled}
+use Rattle.wesl_text_writable.proofs.Clear.{are_hard, are_clear, clear_filled}
 use Rattle.wesl_text_writable.proofs.HardTrees.{rows_are_hard}
 use Rattle.wesl_text_writable.proofs.ClearTrees.{rows_are_clear}
 use Rattle.wesl_text_writable.proofs.MadeApart.{AreMeant}
-use Rattle.wesl_text_respell.specs.Joined.{IsUnit, AreWritableAs, AreParts, IsPartOf}
+use Rattle.wesl_text_respell.specs.Joined.{IsUnit, AreWritableAs, IsPartOf}
 use Rattle.wesl_text_respell.specs.Laws.{UnitsOfParts, JoinedUnits}
-use Rattle.wesl_text_respell.proofs.Rests.{Rest, unknown, rests, rest_behind}
-use Rattle.wesl_text_respell.proofs.Lists.{rest_slots, rest_fewest, Comes}
+use Rattle.wesl_text_respell.proofs.Rests.{unknown, rests}
+use Rattle.wesl_text_respell.proofs.Lists.{rest_fewest, Comes}
 use Rattle.wesl_text_respell.proofs.Parts.{import_comes, directive_comes, declaration_comes}
 use Rattle.wesl_text_respell.proofs.Joined.{meant_joined, meant_apart}
 use Rattle.wesl_text_respell.proofs.Writable.{are_writable, meant_of_writable, writable_of_meant}
