@@ -1,12 +1,12 @@
 -- What has slots has no spans, each of its identifiers is alone, and its types begin with a path or with none.
-use Rattle.std.proofs.Common.{◌≡◌, ℕ, zero, suc, Bool, true, false, not, ◌&&◌, ◌||◌, if◌then◌else◌, List, [], ◌∷◌, Option, Some, None, option_map, option_and_then, refl, sym as turned, ap, ◌∙◌, subst, codes}
+use Rattle.std.proofs.Common.{◌≡◌, zero, suc, Bool, true, false, not, ◌&&◌, if◌then◌else◌, [], ◌∷◌, Option, Some, None, option_map, option_and_then, refl, sym as turned, ap, ◌∙◌, subst, codes}
 use Rattle.wesl_tree_syntax.specs.Tree.{Kind, kind, at, ident, text, texts, truth, path, end, tree, reference, present, absent, list, type_expression, type_or_identifier, expression_node, default_case}
 use Rattle.wesl_tree_syntax.specs.Kinds.{same_kind}
 use Rattle.wesl_text_tokens.specs.declared.symbol.Symbol.TheVariants as is
 use Rattle.wesl_text_tokens.specs.Tokens.{symbol, open_list, close_list}
-use Rattle.wesl_text_form.specs.Slots.{Slot, must, may, alone}
+use Rattle.wesl_text_form.specs.Slots.{must, may, alone}
 use Rattle.wesl_text_form.specs.Operators.{class_of, is_tight}
-use Rattle.wesl_text_form.specs.Productions.{Sort, an_expression, a_bare_expression, a_type, an_argument, a_statement, a_selector, Leaf, an_ident, an_item, a_name, a_word, a_custom, a_literal, a_rule, some_words, one_or_two, steps, a_path, Row, nothing, sym, may_sym, says, opens, closes, own, leaf, run, commas, optional, inside, target, selectors, unended, arrow, row_of}
+use Rattle.wesl_text_form.specs.Productions.{Sort, an_expression, a_type, an_argument, a_statement, a_selector, Leaf, an_ident, an_item, a_name, a_word, a_custom, a_literal, a_rule, some_words, one_or_two, steps, a_path, Row, nothing, sym, may_sym, says, opens, closes, own, leaf, run, commas, optional, inside, target, selectors, unended, arrow, row_of}
 use Rattle.wesl_text_form.specs.Spelling.{Label, Forest, Slots, spells, followed, named, signed, trailing, leaf_slots, first_slots, row_slots, row_of_none, with_comma, fits, stands_as, label_at, is_kind, is_underscore, is_wildcard, leads_to_place, is_lone_default, is_end, is_absent_at, without_last}
 use Rattle.wesl_text_reading.proofs.Filled.{no_some, of_some, no_true}
 use Rattle.wesl_text_reading.proofs.Takes.{and_parts}

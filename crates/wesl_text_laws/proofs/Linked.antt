@@ -1,26 +1,26 @@
 -- A linked unit of writable modules is writable.
-use Rattle.std.proofs.Common.{◌≡◌, ◌<◌, ℕ, true, List, [], ◌∷◌, Some, None, length, map, Contains, refl, sym as turned, ap, ◌∙◌, subst}
+use Rattle.std.proofs.Common.{◌≡◌, ℕ, true, List, [], ◌∷◌, Some, None, map, Contains, refl, sym as turned, ap, ◌∙◌, subst}
 use Rattle.std.proofs.lemmas.List.Elements.{Contains-get_or}
 use Rattle.wesl_tree_names.specs.Path.{Text, Path}
-use Rattle.wesl_tree_syntax.specs.Tree.{TreeOf, trees, forest_of, identifiers, respell_forest}
-use Rattle.wesl_tree_syntax.specs.Unit.{UnitOf, UnitView, forest_of_unit, trees_of as numbered, name_in, spelled, empty_unit, numbers}
+use Rattle.wesl_tree_syntax.specs.Tree.{TreeOf, trees}
+use Rattle.wesl_tree_syntax.specs.Unit.{UnitOf, UnitView, forest_of_unit, trees_of as numbered, name_in, spelled, numbers}
 use Rattle.wesl_text_form.specs.Names.{is_name}
-use Rattle.wesl_text_form.specs.Spelling.{Forest, Slots, slots, unit_row}
+use Rattle.wesl_text_form.specs.Spelling.{Slots, slots, unit_row}
 use Rattle.wesl_text_form.specs.Says.{IsWritable}
 use Rattle.wesl_text_reading.proofs.Filled.{no_true}
 use Rattle.wesl_text_writable.proofs.Writable.{said_are_writable}
-use Rattle.wesl_text_respell.specs.Joined.{IsUnit, IsPartOf}
+use Rattle.wesl_text_respell.specs.Joined.{IsPartOf}
 use Rattle.wesl_text_respell.specs.Respelled.{IsRespelled}
 use Rattle.wesl_text_respell.proofs.Writable.{are_writable, respelled_units}
 use Rattle.wesl_text_respell.proofs.Units.{joined_units}
 use Rattle.wesl_link_reach.specs.World.{Task}
 use Rattle.wesl_link_reach.proofs.Lists.{contains_map}
 use Rattle.wesl_link_assembly.specs.Denotations.{printed_as}
-use Rattle.wesl_link_assembly.specs.Linked.{shape, IsLinkedAs}
+use Rattle.wesl_link_assembly.specs.Linked.{shape}
 use Rattle.wesl_link_assembly.specs.Pathless.{without_paths}
 use Rattle.wesl_link_engine.specs.Worlds.{Module, tables, task_of}
-use Rattle.wesl_link_engine.specs.Linked.{Denotation, Placed, unit_of, IsAssembled}
-use Rattle.wesl_link_engine.specs.Resolved.{Resolved, IsAssembledOf, AssemblesTo}
+use Rattle.wesl_link_engine.specs.Linked.{Placed, unit_of, IsAssembled}
+use Rattle.wesl_link_engine.specs.Resolved.{IsAssembledOf}
 use Rattle.wesl_link_engine.proofs.Lists.{trees_of}
 use Rattle.wesl_text_laws.specs.Laws.{AreWritable, AreSaid, HasNames, LinkedAreWritable, LinkedTexts}
 use Rattle.wesl_text_laws.proofs.Good.{Good, is_good, rows_are_good}

@@ -1,8 +1,8 @@
 -- Trees whose shape is that of others without their paths are those under other names.
 use Rattle.std.proofs.Common.{◌≡◌, ◌⊎◌, zero, suc, Bool, true, false, ◌&&◌, if◌then◌else◌, List, [], ◌∷◌, ◌++◌, map, Contains, refl, sym as turned, inl, inr, ap, ap₂, ◌∙◌, subst}
 use Rattle.std.proofs.lemmas.List.Elements.{Contains-append_left, Contains-append_right, Contains-push}
-use Rattle.wesl_tree_names.specs.Path.{Text, Path}
-use Rattle.wesl_tree_syntax.specs.Tree.{Kind, Role, LabelOf, ForestOf, kind, at, ident, text, texts, truth, path, unary, binary, assignment, space, access, end, tree, present, absent, type_expression, identifiers, respell_label, respell_forest}
+use Rattle.wesl_tree_names.specs.Path.{Text}
+use Rattle.wesl_tree_syntax.specs.Tree.{Role, LabelOf, ForestOf, kind, at, ident, text, texts, truth, path, unary, binary, assignment, space, access, end, tree, present, absent, type_expression, identifiers, respell_label, respell_forest}
 use Rattle.wesl_tree_syntax.specs.Nodes.{is_type}
 use Rattle.wesl_text_form.specs.Names.{is_name}
 use Rattle.wesl_text_form.specs.Spelling.{Label, Forest, is_end}
