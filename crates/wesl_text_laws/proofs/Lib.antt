@@ -1,0 +1,4 @@
+pub mod Good
+pub mod Shaped
+pub mod Modules
+pub mod Linked

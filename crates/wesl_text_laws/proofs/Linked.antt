@@ -1,0 +1,79 @@
+-- A linked unit of writable modules is writable.
+use Rattle.std.proofs.Common.{◌≡◌, ℕ, true, List, [], ◌∷◌, Some, None, map, Contains, refl, sym as turned, ap, ◌∙◌, subst}
+use Rattle.std.proofs.lemmas.List.Elements.{Contains-get_or}
+use Rattle.wesl_tree_names.specs.Path.{Text, Path}
+use Rattle.wesl_tree_syntax.specs.Tree.{TreeOf, trees}
+use Rattle.wesl_tree_syntax.specs.Unit.{UnitOf, UnitView, forest_of_unit, trees_of as numbered, name_in, spelled, numbers}
+use Rattle.wesl_text_form.specs.Names.{is_name}
+use Rattle.wesl_text_form.specs.Spelling.{Slots, slots, unit_row}
+use Rattle.wesl_text_form.specs.Says.{IsWritable}
+use Rattle.wesl_text_reading.proofs.Filled.{no_true}
+use Rattle.wesl_text_writable.proofs.Writable.{said_are_writable}
+use Rattle.wesl_text_respell.specs.Joined.{IsPartOf}
+use Rattle.wesl_text_respell.specs.Respelled.{IsRespelled}
+use Rattle.wesl_text_respell.proofs.Writable.{are_writable, respelled_units}
+use Rattle.wesl_text_respell.proofs.Units.{joined_units}
+use Rattle.wesl_link_reach.specs.World.{Task}
+use Rattle.wesl_link_reach.proofs.Lists.{contains_map}
+use Rattle.wesl_link_assembly.specs.Denotations.{printed_as}
+use Rattle.wesl_link_assembly.specs.Linked.{shape}
+use Rattle.wesl_link_assembly.specs.Pathless.{without_paths}
+use Rattle.wesl_link_engine.specs.Worlds.{Module, tables, task_of}
+use Rattle.wesl_link_engine.specs.Linked.{Placed, unit_of, IsAssembled}
+use Rattle.wesl_link_engine.specs.Resolved.{IsAssembledOf}
+use Rattle.wesl_link_engine.proofs.Lists.{trees_of}
+use Rattle.wesl_text_laws.specs.Laws.{AreWritable, AreSaid, HasNames, LinkedAreWritable, LinkedTexts}
+use Rattle.wesl_text_laws.proofs.Good.{Good, is_good, rows_are_good}
+use Rattle.wesl_text_laws.proofs.Shaped.{Named, named_of, respelled_by_shape, spelled_unplaced, spelled_shape, spelled_identifiers}
+use Rattle.wesl_text_laws.proofs.Modules.{directive_of, declaration_of}
+
+-- ---- the parts, before names are given
+
+module _ (w : List Module) (task : Task Path Text) (names : Path → Text → Text) (unit : UnitView) (writable : AreWritable w) (a : IsAssembled w task names unit) where
+  abbrev source : UnitOf Text
+  source = unit_of a.directives a.held
+
+  of_module : (part : UnitOf Text → TreeOf Text) (t : TreeOf Text) → (m : Module) × Contains w m × Contains (trees (part m.unit).children) t → IsPartOf part t
+  of_module part t x = (x.0.unit, writable x.0 x.1, x.2)
+
+  directives_so : (t : TreeOf Text) → Contains (trees source.directives.children) t → IsPartOf (λ v. v.directives) t
+  directives_so t c = of_module (λ v. v.directives) t (directive_of w a.directives t a.thinned (subst (λ z. Contains z t) (trees_of a.directives) c))
+
+  declarations_so : (t : TreeOf Text) → Contains (trees source.declarations.children) t → IsPartOf (λ v. v.declarations) t
+  declarations_so t c =
+      let x : (d : Placed) × Contains a.held d × (d.declaration ≡ t) = contains_map (λ (d : Placed). d.declaration) a.held t (subst (λ z. Contains z t) (trees_of (map (λ (d : Placed). d.declaration) a.held)) c) in
+      subst (λ z. IsPartOf (λ v. v.declarations) z) x.2 (of_module (λ v. v.declarations) x.0.declaration (declaration_of (tables w) task w a.held x.0 a.holds x.1))
+
+  source_writable : IsWritable source ≡ true
+  source_writable = joined_units source (record { imports = refl; directives = refl; declarations = refl }) refl directives_so declarations_so
+
+  -- ---- with names
+
+  source_good : is_good (forest_of_unit source) ≡ true
+  source_good = by (slots source) (rows_are_good (forest_of_unit source) unit_row refl) source_writable where
+    by : (s : Slots) → Good (is_good (forest_of_unit source)) s → are_writable s ≡ true → is_good (forest_of_unit source) ≡ true
+    by None g h = absurd (no_true h)
+    by (Some ss) g h = g
+
+  unit_shape : shape (forest_of_unit (spelled unit)) ≡ shape (without_paths (forest_of_unit source))
+  unit_shape = ap (λ z. shape (forest_of_unit z)) a.linked.named ∙ (spelled_shape (printed_as names) (forest_of_unit a.linked.linked) ∙ a.linked.same_shape)
+
+  unit_named : HasNames unit → Named (forest_of_unit (spelled unit))
+  unit_named h = named_of (forest_of_unit (spelled unit)) (λ x c.
+      let y : (i : ℕ) × Contains (numbers unit) i × (name_in unit.names i ≡ x)
+      = contains_map (name_in unit.names) (numbers unit) x (subst (λ z. Contains z x) (spelled_identifiers (name_in unit.names) (forest_of_unit (numbered unit))) c) in
+      ap is_name (turned y.2) ∙ h (name_in unit.names y.0) (Contains-get_or unit.names y.0 [] ((a.linked.table y.0).1 y.1)))
+
+  unit_respelled : HasNames unit → IsRespelled (forest_of_unit source) (forest_of_unit (spelled unit))
+  unit_respelled h =
+      respelled_by_shape (forest_of_unit source) (forest_of_unit (spelled unit)) source_good (spelled_unplaced (name_in unit.names) (forest_of_unit (numbered unit))) (unit_named h) unit_shape
+
+pub linked_are_writable : LinkedAreWritable
+linked_are_writable w task names unit writable a h =
+    respelled_units (source w task names unit writable a) (spelled unit) (unit_respelled w task names unit writable a h) (source_writable w task names unit writable a)
+
+pub linked_texts : LinkedTexts
+linked_texts r unit said a h = by r.modules said a where
+  by : (w : List Module) → AreSaid w → IsAssembledOf r w unit → IsWritable (spelled unit) ≡ true
+  by [] s e = ap (λ z. IsWritable (spelled z)) e
+  by (root ∷ others) s e = linked_are_writable (root ∷ others) (task_of root r.kept r.is_eager) r.names unit (λ m c. said_are_writable (s m c).0 m.unit (s m c).1) e h

@@ -1,0 +1,165 @@
+-- Tokens behind others, behind which nothing is pending, are meant exactly where both are meant alone.
+use Rattle.std.proofs.Common.{◌≡◌, ◌≤◌, ◌<◌, ℕ, suc, false, List, [], ◌∷◌, ◌++◌, refl, sym as turned, ap, ◌∙◌, subst, arith}
+use Rattle.wesl_text_tokens.specs.Characters.{is_one_of}
+use Rattle.wesl_text_tokens.specs.Symbols.{symbol_text}
+use Rattle.wesl_text_tokens.specs.Pieces.{Bit}
+use Rattle.wesl_text_tokens.specs.Brackets.{Known, nothing_known, brackets, known_from}
+use Rattle.wesl_text_tokens.specs.Tokens.{Token, name, number, symbol, open_list, close_list}
+use Rattle.wesl_text_form.specs.Says.{sign_bits, token_bits, bits_apart}
+use Rattle.wesl_text_writable.proofs.Fresh.{Before}
+use Rattle.wesl_text_writable.proofs.Grouped.{number_behind, NoBrackets, IsBracketed}
+use Rattle.wesl_text_writable.proofs.KnownApart.{before_joined, known_apart}
+use Rattle.wesl_text_writable.proofs.Quiet.{mark_first}
+use Rattle.wesl_text_writable.proofs.MadeApart.{AllBracketed, AreMeant}
+use Rattle.wesl_text_writable.proofs.LeftOut.{number_of, state, SameBrackets, names_forgotten, unmarked_first, done_here}
+use Rattle.wesl_text_respell.proofs.Inside.{leads_end}
+use Rattle.wesl_text_respell.proofs.Rests.{unknown, rests, rest_behind, Rests, leads_tokens, rests_behind}
+use Rattle.wesl_text_respell.proofs.Moved.{on, on_suc, on_zero, on_le, all_on, among_on, less_on, moved, known_moved}
+
+-- ---- what is known behind tokens
+
+known_state : (ts us : List Token) (i : ℕ) (k : Known) → known_from i k (bits_apart (ts ++ us)) ≡ known_from (number_of i ts) (state i k ts) (bits_apart us)
+known_state [] us i k = refl
+known_state (t ∷ ts) us i k = known_apart t (ts ++ us) i k ∙ known_state ts us (number_behind i (token_bits t)) (known_from i k (token_bits t))
+
+alone_state : (ts : List Token) (i : ℕ) (k : Known) → known_from i k (bits_apart ts) ≡ state i k ts
+alone_state [] i k = refl
+alone_state (t ∷ ts) i k = known_apart t ts i k ∙ alone_state ts (number_behind i (token_bits t)) (known_from i k (token_bits t))
+
+before_state : (ts : List Token) (i : ℕ) (k : Known) → Before i k → Before (number_of i ts) (state i k ts)
+before_state [] i k b = b
+before_state (t ∷ ts) i k b = before_state ts (number_behind i (token_bits t)) (known_from i k (token_bits t)) (before_joined (token_bits t) i k b)
+
+first_bracketed : (final : Known) (ts us : List Token) (i : ℕ) → AllBracketed final i (ts ++ us) → AllBracketed final i ts
+first_bracketed final [] us i a = tt
+first_bracketed final (t ∷ ts) us i a = (a.0, first_bracketed final ts us (number_behind i (token_bits t)) a.1)
+
+last_bracketed : (final : Known) (ts us : List Token) (i : ℕ) → AllBracketed final i (ts ++ us) → AllBracketed final (number_of i ts) us
+last_bracketed final [] us i a = a
+last_bracketed final (t ∷ ts) us i a = last_bracketed final ts us (number_behind i (token_bits t)) a.1
+
+both_bracketed : (final : Known) (ts us : List Token) (i : ℕ) → AllBracketed final i ts → AllBracketed final (number_of i ts) us → AllBracketed final i (ts ++ us)
+both_bracketed final [] us i a b = b
+both_bracketed final (t ∷ ts) us i a b = (a.0, both_bracketed final ts us (number_behind i (token_bits t)) a.1 b)
+
+-- ---- the same brackets under other numbers
+
+behind_le : (bs : List Bit) (i : ℕ) → i ≤ number_behind i bs
+behind_le [] i = omega arith
+behind_le (b ∷ bs) i = omega (arith, behind_le bs (suc i))
+
+number_le : (ts : List Token) (i : ℕ) → i ≤ number_of i ts
+number_le [] i = omega arith
+number_le (t ∷ ts) i = omega (arith, behind_le (token_bits t) i, number_le ts (number_behind i (token_bits t)))
+
+-- what is known of the piece with a number in the one is known of the piece with the number for it in the other
+abbrev Agree : Known → Known → (ℕ → ℕ) → (ℕ → ℕ) → ℕ → Type 0
+Agree f g a b bound = (i : ℕ) → i < bound → (is_one_of g.opened (b i) ≡ is_one_of f.opened (a i)) × (is_one_of g.closed (b i) ≡ is_one_of f.closed (a i))
+
+module _ (f g : Known) (a b : ℕ → ℕ) (a_suc : (i : ℕ) → a (suc i) ≡ suc (a i)) (b_suc : (i : ℕ) → b (suc i) ≡ suc (b i)) (bound : ℕ) (agree : Agree f g a b bound) where
+  number_by : (c : ℕ → ℕ) → ((i : ℕ) → c (suc i) ≡ suc (c i)) → (bs : List Bit) (i : ℕ) → number_behind (c i) bs ≡ c (number_behind i bs)
+  number_by c c_suc [] i = refl
+  number_by c c_suc (x ∷ bs) i = ap (λ z. number_behind z bs) (turned (c_suc i)) ∙ number_by c c_suc bs (suc i)
+
+  bare_there : (bs : List Bit) (i : ℕ) → number_behind i bs ≤ bound → NoBrackets f (a i) bs → NoBrackets g (b i) bs
+  bare_there [] i l h = tt
+  bare_there (x ∷ bs) i l h =
+      let y : (is_one_of g.opened (b i) ≡ is_one_of f.opened (a i)) × (is_one_of g.closed (b i) ≡ is_one_of f.closed (a i)) = agree i (omega (arith, l, behind_le bs (suc i))) in
+      (y.0 ∙ h.0, y.1 ∙ h.1, subst (λ z. NoBrackets g z bs) (b_suc i) (bare_there bs (suc i) l (subst (λ z. NoBrackets f z bs) (turned (a_suc i)) h.2)))
+
+  token_there : (t : Token) (i : ℕ) → number_behind i (token_bits t) ≤ bound → IsBracketed f (a i) t → IsBracketed g (b i) t
+  token_there (name t) i l h = tt
+  token_there (number t) i l h = tt
+  token_there (symbol s) i l h = bare_there (sign_bits (symbol_text s)) i l h
+  token_there open_list i l h = (agree i (omega (arith, l))).0 ∙ h
+  token_there close_list i l h = let y : (is_one_of g.opened (b i) ≡ is_one_of f.opened (a i)) × (is_one_of g.closed (b i) ≡ is_one_of f.closed (a i)) = agree i (omega (arith, l)) in (y.0 ∙ h.0, y.1 ∙ h.1)
+
+  all_there : (ts : List Token) (i : ℕ) → number_of i ts ≤ bound → AllBracketed f (a i) ts → AllBracketed g (b i) ts
+  all_there [] i l h = tt
+  all_there (t ∷ ts) i l h = (
+    token_there t i (omega (arith, l, number_le ts (number_behind i (token_bits t)))) h.0,
+    subst (λ z. AllBracketed g z ts) (turned (number_by b b_suc (token_bits t) i))
+        (all_there ts (number_behind i (token_bits t)) l (subst (λ z. AllBracketed f z ts) (number_by a a_suc (token_bits t) i) h.1)),
+  )
+
+-- ---- tokens and others
+
+abbrev same : ℕ → ℕ
+same i = i
+
+-- what is known where nothing is pending
+known_is : (k : Known) → Rests k → k.is_passed ≡ false → k ≡ record { pending = []; depth = 0; behind_name = k.behind_name; is_passed = false; opened = k.opened; closed = k.closed }
+known_is k r h = ap (λ z. record k { pending = z }) r.0 ∙ (ap (λ z. record k { pending = []; depth = z }) r.1 ∙ ap (λ z. record k { pending = []; depth = 0; is_passed = z }) h)
+
+module _ (ts us : List Token) (quiet : Rests (state 0 nothing_known ts)) (plain : mark_first us ≡ false) where
+  abbrev here : ℕ
+  here = number_of 0 ts
+
+  abbrev now : Known
+  now = state 0 nothing_known ts
+
+  abbrev others : Known
+  others = brackets (bits_apart us)
+
+  abbrev whole : Known
+  whole = brackets (bits_apart (ts ++ us))
+
+  abbrev begun : Known
+  begun = moved here now.opened now.closed nothing_known
+
+  whole_is : whole ≡ known_from here (record begun { behind_name = now.behind_name }) (bits_apart us)
+  whole_is = known_state ts us 0 nothing_known ∙ ap (λ z. known_from here z (bits_apart us)) (known_is now quiet (done_here ts))
+
+  begun_is : known_from here begun (bits_apart us) ≡ moved here now.opened now.closed others
+  begun_is = ap (λ z. known_from z begun (bits_apart us)) (turned (on_zero here)) ∙ known_moved here now.opened now.closed (bits_apart us) 0 nothing_known
+
+  forgotten : SameBrackets (known_from here (record begun { behind_name = now.behind_name }) (bits_apart us)) (known_from here begun (bits_apart us))
+  forgotten = names_forgotten (bits_apart us) here begun now.behind_name refl (unmarked_first us plain)
+
+  opened_is : whole.opened ≡ all_on here others.opened ++ now.opened
+  opened_is = ap (λ z. z.opened) whole_is ∙ (forgotten.0 ∙ ap (λ z. z.opened) begun_is)
+
+  closed_is : whole.closed ≡ all_on here others.closed ++ now.closed
+  closed_is = ap (λ z. z.closed) whole_is ∙ (forgotten.1 ∙ ap (λ z. z.closed) begun_is)
+
+  first_agree : Agree now whole same same here
+  first_agree i l = (ap (λ z. is_one_of z i) opened_is ∙ less_on here i others.opened now.opened l, ap (λ z. is_one_of z i) closed_is ∙ less_on here i others.closed now.closed l)
+
+  last_agree : (bound : ℕ) → Agree others whole same (on here) bound
+  last_agree bound i l =
+      let b : Before here now = before_state ts 0 nothing_known (λ n l. ((refl, refl), refl)) in (
+        ap (λ z. is_one_of z (on here i)) opened_is ∙ among_on here i others.opened now.opened (b (on here i) (on_le here i)).0.0,
+        ap (λ z. is_one_of z (on here i)) closed_is ∙ among_on here i others.closed now.closed (b (on here i) (on_le here i)).1,
+      )
+
+  pub join_meant : AreMeant ts → AreMeant us → AreMeant (ts ++ us)
+  join_meant a b =
+      both_bracketed whole ts us 0
+      (all_there now whole same same (λ i. refl) (λ i. refl) here first_agree ts 0 (omega arith) (subst (λ z. AllBracketed z 0 ts) (alone_state ts 0 nothing_known) a))
+      (subst (λ z. AllBracketed whole z us) (on_zero here) (all_there others whole same (on here) (λ i. refl) (on_suc here) (number_of 0 us) (last_agree (number_of 0 us)) us 0 (omega arith) b))
+
+  pub split_meant : AreMeant (ts ++ us) → AreMeant ts × AreMeant us
+  split_meant a = (
+    subst (λ z. AllBracketed z 0 ts) (turned (alone_state ts 0 nothing_known))
+        (all_there whole now same same (λ i. refl) (λ i. refl) here (λ i l. (turned (first_agree i l).0, turned (first_agree i l).1)) ts 0 (omega arith) (first_bracketed whole ts us 0 a)),
+    all_there whole others (on here) same (on_suc here) (λ i. refl) (number_of 0 us) (λ i l. (turned (last_agree (number_of 0 us) i l).0, turned (last_agree (number_of 0 us) i l).1)) us 0 (omega arith)
+        (subst (λ z. AllBracketed whole z us) (turned (on_zero here)) (last_bracketed whole ts us 0 a)),
+  )
+
+-- ---- behind tokens that are meant nothing is pending
+
+rests_alone : (ts : List Token) → rest_behind unknown ts ≡ rests → AreMeant ts → Rests (state 0 nothing_known ts)
+rests_alone ts q a = rests_behind (state 0 nothing_known ts) ts q (subst (λ z. AllBracketed z 0 ts) (alone_state ts 0 nothing_known) a) (leads_end (state 0 nothing_known ts) (number_of 0 ts))
+
+rests_before : (ts us : List Token) → rest_behind unknown ts ≡ rests → AreMeant (ts ++ us) → Rests (state 0 nothing_known ts)
+rests_before ts us q a =
+    let final : Known = state (number_of 0 ts) (state 0 nothing_known ts) us in
+    let is : brackets (bits_apart (ts ++ us)) ≡ final = known_state ts us 0 nothing_known ∙ alone_state us (number_of 0 ts) (state 0 nothing_known ts) in
+    rests_behind final ts q (first_bracketed final ts us 0 (subst (λ z. AllBracketed z 0 (ts ++ us)) is a))
+    (leads_tokens final us (number_of 0 ts) (state 0 nothing_known ts) (leads_end final (number_of (number_of 0 ts) us)))
+
+pub meant_joined : (ts us : List Token) → rest_behind unknown ts ≡ rests → mark_first us ≡ false → AreMeant ts → AreMeant us → AreMeant (ts ++ us)
+meant_joined ts us q m a b = join_meant ts us (rests_alone ts q a) m a b
+
+pub meant_apart : (ts us : List Token) → rest_behind unknown ts ≡ rests → mark_first us ≡ false → AreMeant (ts ++ us) → AreMeant ts × AreMeant us
+meant_apart ts us q m a = split_meant ts us (rests_before ts us q a) m a

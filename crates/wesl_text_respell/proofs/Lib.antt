@@ -1,0 +1,16 @@
+pub mod Kept
+pub mod Ended
+pub mod Related
+pub mod Leaves
+pub mod Trees
+pub mod Follow
+pub mod Meant
+pub mod Writable
+pub mod Pending
+pub mod Inside
+pub mod Rests
+pub mod Moved
+pub mod Joined
+pub mod Lists
+pub mod Parts
+pub mod Units

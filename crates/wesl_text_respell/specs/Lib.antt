@@ -1,0 +1,3 @@
+pub mod Respelled
+pub mod Joined
+pub mod Laws
