@@ -1,5 +1,5 @@
 -- Which places of a module each choice keeps, where each place has the number of the set of the choices that keep it.
-use Rattle.std.specs.Prelude.{◌≡◌, ℕ, suc, ◌^◌, ◌<◌, Bool, true, false, if◌then◌else◌, List, [], ◌∷◌, ◌++◌, map, slice_get, Option, Some, None, Contains}
+use Rattle.std.specs.Prelude.{◌≡◌, ℕ, suc, ◌^◌, ◌<◌, nat_eq, nat_lt, ◌&&◌, Bool, true, false, if◌then◌else◌, List, [], ◌∷◌, ◌++◌, map, slice_get, Option, Some, None, Contains}
 use Rattle.wesl_cond_choices.specs.declared.place.Place.{Place}
 use Rattle.wesl_cond_choices.specs.declared.place.Place.TheVariants.{Always, Import, Declaration, Name}
 use Rattle.wesl_cond_choices.specs.Choices.{Choices, has, below}
@@ -30,6 +30,10 @@ set_has k (Some c) = has c k
 abbrev pub has_at : List Choices → ℕ → Option ℕ → Bool
 has_at sets k None = false
 has_at sets k (Some n) = set_has k (slice_get sets n)
+
+-- whether there is a number, and a set with it that has the choice, which is one of the flags that another set is of too
+abbrev pub in_set : PlaceSets → Choices → ℕ → Option ℕ → Bool
+in_set s c k n = nat_eq c.flags s.flags && (nat_lt k (2 ^ s.flags) && has_at s.sets k n)
 
 -- of the places counted from j on, whose sets have these numbers, those that the choice keeps
 abbrev pub kept_from : List Choices → ℕ → (ℕ → Place) → ℕ → List ℕ → List Place

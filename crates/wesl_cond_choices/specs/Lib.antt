@@ -2,3 +2,5 @@ pub mod Places
 pub mod Choices
 pub mod Alive
 pub mod Rows
+pub mod Covers
+pub mod CoversView

@@ -1,11 +1,14 @@
 //! Which places of a module some choice of flags keeps together.
-ghost use Rattle.std.specs.Prelude.{◌≡◌, ◌↔◌, [], IsTrue, Some};
-ghost use Rattle.wesl_cond_choices.specs.Alive.{AreOver, ShareChoice, kept_lists, number_of, place_sets};
+ghost use Rattle.std.specs.Prelude.{◌≡◌, ◌↔◌, ℕ, ◌||◌, [], true, false, IfOk, IsTrue, Some};
+ghost use Rattle.wesl_cond_choices.specs.Alive.{AreOver, ShareChoice, in_set, kept_lists, number_of, place_sets};
+ghost use Rattle.wesl_cond_choices.specs.Choices.{has};
+ghost use Rattle.wesl_cond_choices.specs.Covers.{IsOver, SomeKeeps, kept_at};
 ghost use Rattle.wesl_cond_choices.specs.Places as places;
 ghost use Rattle.wesl_cond_choices.specs.Places.{together};
 
 use crate::choices::Choices;
 use crate::place::Place;
+use std::alloc::{AllocError, Global};
 use std::marker::Model;
 
 /// Sets of choices, and of each place of a module the number of the set of the choices that keep it.
@@ -40,7 +43,8 @@ impl Model for PlaceSets {
     ghost invariant = { λ s. alive.AreOver s.flags s.sets.items };
 }
 
-fn is_always(place: Place) -> bool
+/// Whether it is the module itself, which every choice keeps.
+pub fn is_always(place: Place) -> bool
     ensures { result ≡ places.is_always place }
 {
     match place {
@@ -105,6 +109,66 @@ impl PlaceSets {
         }
         self.share_choice(first, second)
     }
+
+    /// No choice of the flags that the sets are of.
+    fn no_choice(&self, alloc: Global) -> Result<Choices, AllocError>
+        ensures over { IfOk result (λ c. IsOver (kept_lists self.now) c) }
+        ensures none { IfOk result (λ c. (k : ℕ) → has c k ≡ false) }
+    {
+        match self.sets.first() {
+            Some(set) => Choices::none(alloc, set.flags()),
+            None => Choices::none(alloc, 0),
+        }
+    }
+
+    /// Adds the choices of the set with this number.
+    fn add_set(&self, all: &mut Choices, number: usize)
+        ensures over { all.new.flags ≡ all.old.flags }
+        ensures added { (k : ℕ) → has all.new k ≡ (has all.old k || in_set self.now all.old k (Some number)) }
+    {
+        if number >= self.sets.len() {
+            return;
+        }
+        let set = &self.sets[number];
+        if set.flags() == all.flags() {
+            all.or(set);
+        }
+    }
+
+    /// Adds the choices of a place's set.
+    fn add_kept(&self, all: &mut Choices, place: Place)
+        ensures over { all.new.flags ≡ all.old.flags }
+        ensures added { (k : ℕ) → has all.new k ≡ (has all.old k || in_set self.now all.old k (number_of self.now place)) }
+    {
+        match self.number_of(place) {
+            Some(number) => self.add_set(all, number),
+            None => {}
+        }
+    }
+
+    /// Whether some choice is in the set with this number and in the other.
+    fn set_meets(&self, number: usize, all: &Choices) -> bool
+        ensures { IsTrue result ↔ ((k : ℕ) × (has all.now k ≡ true) × (in_set self.now all.now k (Some number) ≡ true)) }
+    {
+        if number >= self.sets.len() {
+            return false;
+        }
+        let set = &self.sets[number];
+        if set.flags() != all.flags() {
+            return false;
+        }
+        set.meets(all)
+    }
+
+    /// Whether some of these choices is in a place's set.
+    fn meets(&self, place: Place, all: &Choices) -> bool
+        ensures { IsTrue result ↔ ((k : ℕ) × (has all.now k ≡ true) × (in_set self.now all.now k (number_of self.now place) ≡ true)) }
+    {
+        match self.number_of(place) {
+            Some(number) => self.set_meets(number, all),
+            None => false,
+        }
+    }
 }
 
 /// Which places of a module each choice of its flags keeps.
@@ -167,6 +231,45 @@ impl Alive {
         match &self.places {
             None => false,
             Some(sets) => sets.together(first, second),
+        }
+    }
+
+    /// No choice of the module's flags.
+    ///
+    /// # Errors
+    /// Want of memory.
+    pub fn no_choice(&self, alloc: Global) -> Result<Choices, AllocError>
+        ensures over { IfOk result (λ c. IsOver self.now c) }
+        ensures none { IfOk result (λ c. (k : ℕ) → has c k ≡ false) }
+    {
+        match &self.places {
+            None => Choices::none(alloc, 0),
+            Some(sets) => sets.no_choice(alloc),
+        }
+    }
+
+    /// Adds the choices that keep a place.
+    pub fn add_kept(&self, all: &mut Choices, place: Place)
+        requires over { IsOver self.now all.old }
+        requires apart { places.is_always place ≡ false }
+        ensures over { all.new.flags ≡ all.old.flags }
+        ensures added { (k : ℕ) → has all.new k ≡ (has all.old k || kept_at self.now k place) }
+    {
+        match &self.places {
+            None => {}
+            Some(sets) => sets.add_kept(all, place),
+        }
+    }
+
+    /// Whether some of these choices keeps a place.
+    pub fn meets(&self, place: Place, all: &Choices) -> bool
+        requires over { IsOver self.now all.now }
+        requires apart { places.is_always place ≡ false }
+        ensures { IsTrue result ↔ SomeKeeps self.now all.now place }
+    {
+        match &self.places {
+            None => false,
+            Some(sets) => sets.meets(place, all),
         }
     }
 }

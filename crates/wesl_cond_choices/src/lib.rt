@@ -3,5 +3,6 @@
 
 pub mod alive;
 pub mod choices;
+pub mod covers;
 pub mod laws;
 pub mod place;

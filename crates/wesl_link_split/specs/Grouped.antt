@@ -5,6 +5,9 @@ use Rattle.std.specs.Global.{Vec}
 use Rattle.std.specs.List.{filter, list_any}
 use Rattle.wesl_cond_choices.specs.Places.{same_place}
 use Rattle.wesl_cond_choices.specs.declared.place.Place.TheVariants.{Always}
+use Rattle.wesl_cond_choices.specs.CoversView.{AreCovered, AreCoversOver}
+use Rattle.wesl_cond_choices.specs.declared.covers.Covers.{Covers}
+use Rattle.wesl_cond_choices.specs.declared.place.Place.{Place}
 use Rattle.wesl_link_symbols.specs.declared.ids.PathId.{PathId}
 use Rattle.wesl_tree_base.specs.declared.ids.NameId.{NameId}
 use Rattle.wesl_link_symbols.specs.declared.symbols.Reference.{Reference}
@@ -89,6 +92,20 @@ pub record AreGrouped (binders : List (Binder PathId NameId)) (names : List Name
   pub long : length groups ≡ length names
   pub each : (i : ℕ) (n : NameId) (g : Vec (Binder PathId NameId)) → slice_get names i ≡ Some n → slice_get groups i ≡ Some g → g.items ≡ split.of_name ids n binders
   pub all : (b : Binder PathId NameId) → Contains binders b → list_any (same_id b.bound) names ≡ true
+
+-- where these binders stand
+abbrev pub places_of : List (Binder PathId NameId) → List Place
+places_of bs = map (λ b. b.stands) bs
+
+-- these are unions of the choices that keep these binders
+pub record IsCoverOf (alive : List (List Place)) (bs : List (Binder PathId NameId)) (c : Covers) : Type 0 where
+  pub over : AreCoversOver alive c
+  pub levels : AreCovered alive (places_of bs) c
+
+-- such are the unions of each group that has some
+abbrev pub AreCoveredIf : List (List Place) → List (Vec (Binder PathId NameId)) → List Covers → Type 0
+AreCoveredIf alive groups covers =
+    (i : ℕ) (g : Vec (Binder PathId NameId)) (c : Covers) → slice_get groups i ≡ Some g → slice_get covers i ≡ Some c → IsCoverOf alive g.items c
 
 -- one binder more is put to those of its name
 abbrev pub GroupsNext : List NameId → List (Vec (Binder PathId NameId)) → Binder PathId NameId → List NameId → List (Vec (Binder PathId NameId)) → Type 0

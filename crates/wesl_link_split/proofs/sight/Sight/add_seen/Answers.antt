@@ -1,22 +1,10 @@
-use Rattle.std.proofs.Common.{◌∙◌, ap, ap₂, Bool, List}
-use Rattle.std.specs.Prelude.{flat_map, if◌then◌else◌}
-use Rattle.std.specs.List.{filter}
-use Rattle.wesl_cond_choices.specs.declared.place.Place.TheVariants.{Always}
-use Rattle.wesl_tree_base.specs.declared.ids.NameId.{NameId}
-use Rattle.wesl_link_symbols.specs.declared.ids.PathId.{PathId}
-use Rattle.wesl_link_split.specs.Grouped.{ids, one_if}
-use Rattle.wesl_link_split.specs.SightView.{sight_view}
-use Rattle.wesl_link_split.specs.Split.{Binder, sees}
-use Rattle.wesl_link_split.proofs.Lists.{taken_all}
-use Rattle.wesl_link_split.proofs.Orders.{filter_flat}
 use Rattle.wesl_link_split.proofs.sight.Sight.add_seen.Goals as goal
 
+pub binders-init : goal.binders-init
+binders-init c = ?
+
+pub binders-preserved : goal.binders-preserved
+binders-preserved c = ?
+
 pub returns : goal.returns
-returns c =
-    let s = sight_view c.args.self.now in
-    let bs : List (Binder PathId NameId) = c.group-group.result.now in
-    let seen : Bool → Binder PathId NameId → Bool = λ x b. sees ids s c.args.from (if x then b.stands else Always) in
-    let x : Bool = c.is_split-is_split.result in
-    c.loop-binder.invariant
-    ∙ (ap (flat_map (λ b. one_if (seen x b) b)) (taken_all bs c.loop-binder.binder-index c.loop-binder-test.false)
-    ∙ (filter_flat (seen x) bs ∙ ap₂ (λ y ds. filter (seen y) ds) c.is_split-is_split.ensures c.group-group.ensures))
+returns c = ?

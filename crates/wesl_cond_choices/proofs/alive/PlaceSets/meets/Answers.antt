@@ -1,0 +1,7 @@
+use Rattle.wesl_cond_choices.proofs.alive.PlaceSets.meets.Goals as goal
+
+pub returns-in-Some : goal.returns-in-Some
+returns-in-Some c = ?
+
+pub returns-in-None : goal.returns-in-None
+returns-in-None c = ?
