@@ -7,7 +7,7 @@ use Rattle.wesl_tree_syntax.specs.Shown.{placed}
 use Rattle.wesl_tree_syntax.specs.Unit.{UnitView}
 use Rattle.wesl_json_form.specs.Schema.{Name, node, a_declaration, a_directive, an_import}
 use Rattle.wesl_json_light.specs.Numbers.{has_number, items_have_number}
-use Rattle.wesl_json_write.specs.Values.{items_in, value_in}
+use Rattle.wesl_json_words.specs.Values.{items_in, value_in}
 use Rattle.wesl_json.specs.UnitTexts.{shows_span}
 
 -- ---- the loop over declarations

@@ -7,7 +7,7 @@ ghost use Rattle.wesl_json_light.specs.View.{items_view, piece_view};
 ghost use Rattle.wesl_tree_syntax.specs.Shown.{placed};
 ghost use Rattle.wesl_tree_syntax.specs.View.{declarations_tree};
 ghost use Rattle.wesl_tree.specs.Translation.{unit_view};
-ghost use Rattle.wesl_json_write.specs.Values.{items_in};
+ghost use Rattle.wesl_json_words.specs.Values.{items_in};
 ghost use Rattle.wesl_json.specs.UnitTexts.{shows_span};
 
 use std::alloc::{AllocError, Global};

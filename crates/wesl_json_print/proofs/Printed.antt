@@ -12,7 +12,7 @@ use Rattle.wesl_json_print_nodes.specs.Printing.{PrintsTokens, Prints, PrintsLis
 use Rattle.wesl_json_print_nodes.specs.declared.printer.Printer.{Printer}
 use Rattle.wesl_json_print_nodes.proofs.Adding.{keyed, then, told}
 use Rattle.wesl_json_print_nodes.proofs.Parts.{Part, part, arranged, list_part, object_tokens, put_part, puts_before, tokens_of}
-use Rattle.wesl_json_write.specs.Values.{bare, with_list}
+use Rattle.wesl_json_words.specs.Values.{bare, with_list}
 use Rattle.wesl_tree_names.specs.Path.{Text}
 
 -- ---- a list of pieces

@@ -5,7 +5,7 @@ ghost use Rattle.serde_json.specs.Data.{Items};
 ghost use Rattle.serde_json.specs.Written.{items_outline};
 ghost use Rattle.wesl_json_light.specs.View.{items_view};
 ghost use Rattle.wesl_json_print_nodes.specs.Printing.{PrintsTokens, PrintsList};
-ghost use Rattle.wesl_json_write.specs.Values.{AreWritten};
+ghost use Rattle.wesl_json_write.specs.Pieces.{AreWritten};
 
 use std::alloc::AllocError;
 use wesl_json_light::{Piece, write_items};

@@ -10,9 +10,9 @@ use Rattle.wesl_json_print_nodes.specs.Printing.{PrintsTokens, Prints, at_place,
 use Rattle.wesl_json_print_nodes.specs.declared.printer.Printer.{Printer}
 use Rattle.wesl_json_print_nodes.proofs.Adding.{told}
 use Rattle.wesl_json_print_nodes.proofs.Parts.{Part, part, are_apart, arranged, list_part, option_part, option_put, placed_tokens, puts, puts_before, span_part, tokens_of}
-use Rattle.wesl_json_write.specs.Values.{attribute_at, attribute_in, expression_data, items_in, place_label, placed_data, with_list, with_member, with_option, with_place, workgroup_size, worded}
-use Rattle.wesl_json_write.proofs.Imports.{as-custom, as-named}
-use Rattle.wesl_json_write.proofs.PlacedShort.{placed-attribute}
+use Rattle.wesl_json_words.specs.Values.{attribute_at, attribute_in, expression_data, items_in, place_label, placed_data, with_list, with_member, with_option, with_place, workgroup_size, worded}
+use Rattle.wesl_json_words.proofs.Imports.{as-custom, as-named}
+use Rattle.wesl_json_words.proofs.PlacedShort.{placed-attribute}
 use Rattle.wesl_tree_base.specs.declared.span.Span.{Span}
 use Rattle.wesl_tree_names.specs.Path.{Text}
 use Rattle.wesl_tree_syntax.specs.Tree.{attribute_node, list}

@@ -12,10 +12,10 @@ use Rattle.wesl_json_print_nodes.specs.declared.printer.Printer.{Printer}
 use Rattle.wesl_json_print_nodes.proofs.Adding.{told}
 use Rattle.wesl_json_print_nodes.proofs.Parts.{Part, part, are_apart, arranged, list_part, object_tokens, option_part, option_put, placed_tokens, put_part, puts, puts_before, span_part, tokens_of}
 use Rattle.wesl_json_print_nodes.proofs.Statements.{at_key, attrs, body, expression_option, word}
-use Rattle.wesl_json_write.specs.Values.{declaration_at, declaration_in, items_in, kind_text, placed_at, statement_at, statement_in, value_in, with_list, with_member, with_option, with_row, with_space, word_value, worded}
-use Rattle.wesl_json_write.proofs.Blocks.{Attributes, children_of}
-use Rattle.wesl_json_write.proofs.Declarations.{as-alias, as-function, as-global, as-global-assert, as-local, as-local-assert, as-member, as-parameter, as-struct, declared, written-global-void, written-local-void}
-use Rattle.wesl_json_write.proofs.Placed.{placed-declaration, placed-member, placed-statement}
+use Rattle.wesl_json_words.specs.Values.{declaration_at, declaration_in, items_in, kind_text, placed_at, statement_at, statement_in, value_in, with_list, with_member, with_option, with_row, with_space, word_value, worded}
+use Rattle.wesl_json_words.proofs.Blocks.{Attributes, children_of}
+use Rattle.wesl_json_words.proofs.Declarations.{as-alias, as-function, as-global, as-global-assert, as-local, as-local-assert, as-member, as-parameter, as-struct, declared, written-global-void, written-local-void}
+use Rattle.wesl_json_words.proofs.Placed.{placed-declaration, placed-member, placed-statement}
 use Rattle.wesl_tree_base.specs.declared.span.Span.{Span}
 use Rattle.wesl_tree_names.specs.Path.{Text}
 use Rattle.wesl_tree_syntax.specs.Tree.{Kind, Tree, access, branch, declaration_node, member_node, members, parameters, space, statement_node, void}

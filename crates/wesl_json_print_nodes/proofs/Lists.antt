@@ -10,7 +10,7 @@ use Rattle.wesl_json_form.specs.Writing.{put_list, texts_value}
 use Rattle.wesl_json_print_nodes.specs.Printing.{PrintsTokens, Prints, PrintsList, inside}
 use Rattle.wesl_json_print_nodes.specs.declared.printer.Printer.{Printer}
 use Rattle.wesl_json_print_nodes.proofs.Adding.{keyed, none, then, told}
-use Rattle.wesl_json_write.specs.Values.{items_in, value_in}
+use Rattle.wesl_json_words.specs.Values.{items_in, value_in}
 use Rattle.wesl_tree_names.specs.Path.{Text}
 use Rattle.wesl_tree_syntax.specs.Tree.{Tree, forest_of}
 

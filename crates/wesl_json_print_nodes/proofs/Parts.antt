@@ -12,9 +12,9 @@ use Rattle.wesl_json_form.specs.Writing.{is_empty_array, is_placed, put_span, sp
 use Rattle.wesl_json_print_nodes.specs.Printing.{PrintsTokens, PrintsMember, PrintsMembers, inside}
 use Rattle.wesl_json_print_nodes.specs.declared.printer.Printer.{Printer}
 use Rattle.wesl_json_print_nodes.proofs.Adding.{none, told}
-use Rattle.wesl_json_write.proofs.Expressions.{option-none, option-some}
-use Rattle.wesl_json_write.proofs.Placed.{span_by}
-use Rattle.wesl_json_write.specs.Values.{end_of, place_label, placed_data, start_of, value_in, with_member, with_option, with_place}
+use Rattle.wesl_json_words.proofs.Expressions.{option-none, option-some}
+use Rattle.wesl_json_words.proofs.Placed.{span_by}
+use Rattle.wesl_json_words.specs.Values.{end_of, place_label, placed_data, start_of, value_in, with_member, with_option, with_place}
 use Rattle.wesl_tree_base.specs.declared.span.Span.{Span}
 use Rattle.wesl_tree_names.specs.Path.{Text}
 use Rattle.wesl_tree_syntax.specs.Tree.{Kind, Tree}

@@ -13,10 +13,10 @@ use Rattle.wesl_json_print_nodes.specs.Printing.{PrintsTokens, Prints, at_place,
 use Rattle.wesl_json_print_nodes.specs.declared.printer.Printer.{Printer}
 use Rattle.wesl_json_print_nodes.proofs.Adding.{told}
 use Rattle.wesl_json_print_nodes.proofs.Parts.{Part, part, are_apart, arranged, list_part, object_tokens, option_part, option_put, placed_tokens, put_part, puts, puts_before, span_part, tokens_of}
-use Rattle.wesl_json_write.specs.Values.{assigned, bare, call_members, expression_data, items_in, statement_at, statement_in, value_in, with_attributes, with_clause, with_list, with_member, with_option, worded}
-use Rattle.wesl_json_write.proofs.Blocks.{Attributes, as-block, as-body, as-body-value, as-clause, as-continuing, as-elif, as-else, as-for, as-if, as-if-clause, as-loop, as-switch, as-while, children_of}
-use Rattle.wesl_json_write.proofs.Imports.{as-break-if, as-case, as-default}
-use Rattle.wesl_json_write.proofs.Placed.{placed-statement}
+use Rattle.wesl_json_words.specs.Values.{assigned, bare, call_members, expression_data, items_in, statement_at, statement_in, value_in, with_attributes, with_clause, with_list, with_member, with_option, worded}
+use Rattle.wesl_json_words.proofs.Blocks.{Attributes, as-block, as-body, as-body-value, as-clause, as-continuing, as-elif, as-else, as-for, as-if, as-if-clause, as-loop, as-switch, as-while, children_of}
+use Rattle.wesl_json_words.proofs.Imports.{as-break-if, as-case, as-default}
+use Rattle.wesl_json_words.proofs.Placed.{placed-statement}
 use Rattle.wesl_tree_base.specs.declared.span.Span.{Span}
 use Rattle.wesl_tree_names.specs.Path.{Text}
 use Rattle.wesl_tree_syntax.specs.Tree.{assignment, clauses, list, statement_node, statements}

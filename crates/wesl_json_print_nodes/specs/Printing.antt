@@ -21,7 +21,7 @@ use Rattle.wesl_tree_syntax.specs.declared.declaration.DeclarationKind.TheVarian
 use Rattle.wesl_json_form.specs.Schema.{an_expression, node}
 use Rattle.wesl_json_form.specs.Words.{access_words, space_words}
 use Rattle.wesl_json_form.specs.Writing.{put_list}
-use Rattle.wesl_json_write.specs.Values.{bare, call_members, expression_data, place_label, with_attributes, with_member, with_option, with_place, word_value, worded}
+use Rattle.wesl_json_words.specs.Values.{bare, call_members, expression_data, place_label, with_attributes, with_member, with_option, with_place, word_value, worded}
 use Rattle.wesl_json_print_nodes.specs.declared.printer.Printer.{Printer}
 
 -- Unless memory was wanting by then: the tokens are those before and these, behind the same text, and memory was not wanting before either.

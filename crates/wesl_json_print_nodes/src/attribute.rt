@@ -4,13 +4,13 @@ ghost use Rattle.serde_json.specs.Data.{array, no_members, string};
 ghost use Rattle.wesl_json_form.specs.Schema.{an_attribute};
 ghost use Rattle.wesl_json_form.specs.Writing.{texts_value};
 ghost use Rattle.wesl_json_print_nodes.specs.Printing.{Prints, PrintsList, at_place, custom_tree, diagnosed};
-ghost use Rattle.wesl_json_write.specs.Values.{attribute_at, attribute_in, expression_data, items_in, with_list, with_member, workgroup_size, worded};
+ghost use Rattle.wesl_json_words.specs.Values.{attribute_at, attribute_in, expression_data, items_in, with_list, with_member, workgroup_size, worded};
 ghost use Rattle.wesl_tree_syntax.specs.Tree.{attribute_node};
 ghost use Rattle.wesl_tree_syntax.specs.View.{attribute_view, attributes_tree, expression_tree, optional, texts_of};
 
 use crate::expression::{print_expression_at, print_expressions, print_optional_expression};
 use crate::printer::Printer;
-use wesl_json_write::is_shown;
+use wesl_json_words::is_shown;
 use wesl_tree_names::{Names, Span};
 use wesl_tree_syntax::{Attribute, Attributes, ExpressionNode};
 

@@ -3,7 +3,7 @@ ghost use Rattle.std.specs.Prelude.{codes};
 ghost use Rattle.serde_json.specs.Data.{array, no_members};
 ghost use Rattle.wesl_json_form.specs.Schema.{a_declaration, a_member, a_parameter, node as node_form};
 ghost use Rattle.wesl_json_print_nodes.specs.Printing.{Prints, PrintsList, PrintsMembers, access_member, mode_member, space_member};
-ghost use Rattle.wesl_json_write.specs.Values.{declaration_at, items_in, placed_at, statement_at, value_in};
+ghost use Rattle.wesl_json_words.specs.Values.{declaration_at, items_in, placed_at, statement_at, value_in};
 ghost use Rattle.wesl_tree_syntax.specs.Tree.{member_node, members as members_kind, parameters as parameters_kind};
 ghost use Rattle.wesl_tree_syntax.specs.View.{alias_view, assert_view, declaration_view, declarations_tree, function_view, global_view, listed, member_view, parameter_view, placed, struct_view};
 
@@ -13,7 +13,7 @@ use crate::expression::{
 };
 use crate::printer::Printer;
 use crate::statement::{print_body_at, print_void};
-use wesl_json_write::{access_word, kind_word, space_word, spelling};
+use wesl_json_words::{access_word, kind_word, space_word, spelling};
 use wesl_tree_names::{Names, Span};
 use wesl_tree_syntax::{
     AccessMode, ConstAssert, Declaration, DeclarationKind, FormalParameter, Function,

@@ -3,12 +3,12 @@ ghost use Rattle.std.specs.Prelude.{◌≡◌, [], ◌∷◌, codes};
 ghost use Rattle.serde_json.specs.Data.{array, boolean, no_members, string};
 ghost use Rattle.wesl_json_form.specs.Schema.{a_path, a_template_argument, a_type, an_expression, leaf, node as node_form};
 ghost use Rattle.wesl_json_print_nodes.specs.Printing.{Prints, PrintsList, PrintsMember, PrintsMembers, named_at, plain_type_tree};
-ghost use Rattle.wesl_json_write.specs.Values.{bare, call_members, expression_at, items_in, value_in, with_option};
+ghost use Rattle.wesl_json_words.specs.Values.{bare, call_members, expression_at, items_in, value_in, with_option};
 ghost use Rattle.wesl_tree_syntax.specs.Tree.{branch, list, literal as literal_kind};
 ghost use Rattle.wesl_tree_syntax.specs.View.{argument_view, boxed_path, call_view, expression_tree, expression_view, listed, literal_tree, optional, type_view};
 
 use crate::printer::Printer;
-use wesl_json_write::{binary_word, is_shown, spelling, truth_word, unary_word};
+use wesl_json_words::{binary_word, is_shown, spelling, truth_word, unary_word};
 use wesl_tree_names::{Ident, ModulePath, Names, Span};
 use wesl_tree_syntax::{
     Expression, ExpressionNode, FunctionCall, Literal, TemplateArg, TypeExpression,

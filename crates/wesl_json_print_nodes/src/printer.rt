@@ -3,14 +3,14 @@ ghost use Rattle.std.specs.Prelude.{◌≡◌, [], ◌∷◌, codes, false, IfOk
 ghost use Rattle.json.specs.Token.{begin_array, begin_object, end_array, end_object, key as key_token};
 ghost use Rattle.serde_json.specs.Data.{boolean, no_members, number, string, unsigned};
 ghost use Rattle.wesl_json_form.specs.Writing.{put_span};
-ghost use Rattle.wesl_json_write.specs.Values.{place_label};
+ghost use Rattle.wesl_json_words.specs.Values.{place_label};
 ghost use Rattle.wesl_tree_names.specs.Path.{path_view};
 ghost use Rattle.wesl_tree_names.specs.PathText.{to_text};
 ghost use Rattle.wesl_tree_syntax.specs.Tree.{Kind};
 
 use json::Writer;
 use std::alloc::{AllocError, Global};
-use wesl_json_write::is_shown;
+use wesl_json_words::is_shown;
 use wesl_tree_names::{ModulePath, Span};
 
 /// Prints values behind what a writer holds. Want of memory is noted: what is printed from then on is no value, and the end tells it.

@@ -4,7 +4,7 @@ ghost use Rattle.std.specs.Box.{box_value};
 ghost use Rattle.serde_json.specs.Data.{array, no_members};
 ghost use Rattle.wesl_json_form.specs.Schema.{a_body, a_break_if, a_case, a_clause, a_continuing, a_statement, an_elif, an_else, node as node_form};
 ghost use Rattle.wesl_json_print_nodes.specs.Printing.{Prints, PrintsList, PrintsMember, PrintsMembers, at_place, called, returned, stepped};
-ghost use Rattle.wesl_json_write.specs.Values.{assigned, declaration_at, items_in, statement_at, value_in, with_attributes, with_option, worded};
+ghost use Rattle.wesl_json_words.specs.Values.{assigned, declaration_at, items_in, statement_at, value_in, with_attributes, with_option, worded};
 ghost use Rattle.wesl_tree_syntax.specs.Tree.{assignment, branch, clauses as clauses_kind, list, statement_node, statements as statements_kind, void};
 ghost use Rattle.wesl_tree_syntax.specs.View.{attributes_tree, break_if_view, call_view, clause_view, compound_view, continuing_view, else_if_view, else_view, expression_tree, listed, optional, selector_view, statement_tree, statement_view};
 
@@ -14,7 +14,7 @@ use crate::expression::{
     print_call, print_expression, print_expression_at, print_optional_expression,
 };
 use crate::printer::Printer;
-use wesl_json_write::assignment_word;
+use wesl_json_words::assignment_word;
 use wesl_tree_names::{Names, Span};
 use wesl_tree_syntax::{
     AssignmentOperator, Attributes, BreakIfStatement, CaseSelector, CompoundStatement,

@@ -9,14 +9,12 @@ use Rattle.wesl_json_light.specs.View.{items_view, piece_view}
 use Rattle.wesl_json_light.specs.declared.piece.Piece.{Piece, the_lemmas}
 use Rattle.wesl_json_light.specs.declared.piece.Piece as pieces
 use Rattle.wesl_tree_names.specs.Path.{Text}
-use Rattle.wesl_tree_syntax.specs.Tree.{Tree, forest_of, Kind}
+use Rattle.wesl_tree_syntax.specs.Tree.{Tree, forest_of}
 use Rattle.wesl_tree_syntax.specs.Shown.{shown}
 use Rattle.wesl_tree_syntax.specs.Unit.{name_in}
-use Rattle.wesl_tree_syntax.specs.View.{placed}
-use Rattle.wesl_tree_syntax.specs.declared.span.Spanned.{Spanned}
 use Rattle.wesl_json_form.specs.Schema.{Name, node}
 use Rattle.wesl_json_form.specs.Writing.{written, texts_value}
-use Rattle.wesl_json_write.specs.Values.{placed_at, value_in, placed_in, items_in, items_then, with_list, with_member}
+use Rattle.wesl_json_words.specs.Values.{value_in, items_in, items_then, with_list, with_member}
 
 pub with_none : (k : Text) (vs : List Piece) (ms : Members) → vs ≡ [] → with_list k (items_view vs) ms ≡ ms
 unfolding with_list
@@ -97,11 +95,6 @@ module _ (spans : Bool) (names : List Text) (m : Name) where
     -- after the last turn
     pub items-whole : (ys : List A) (i : ℕ) (list : Result (Vec Piece Global) E) → xs ≡ ys → length xs ≤ i → AreItems i list → IfOk list (λ vs. items_view vs.items ≡ items_in spans names m (forest_of (map f ys)))
     items-whole ys i list same all h = IfOk-weaker list _ _ (λ vs is. is ∙ ap (λ zs. items_in spans names m (forest_of (map f zs))) (take_all i xs all ∙ same)) h
-
-  -- a node that has a span, by the node in it
-  pub placed-value : {A : Type 0} (f : A → Tree) (k : Kind) (x : Spanned A) → value_in spans names (node m) (placed f k x) ≡ placed_at spans names m k x.span (f x.node)
-  unfolding value_in placed_at placed_in
-  placed-value f k x = refl
 
 -- a piece of data that is sorted, made a value
 pub made-sorted : (d e v : Data) → sorted e ≡ e → d ≡ e → v ≡ sorted d → v ≡ e

@@ -7,8 +7,8 @@ use Rattle.wesl_tree_syntax.specs.View.{optional}
 use Rattle.wesl_json_form.specs.Schema.{Form}
 use Rattle.wesl_json_write.specs.declared.object.Object.{Object}
 use Rattle.wesl_json_write.specs.Objects.{Holds}
-use Rattle.wesl_json_write.specs.Values.{value_in, with_member, with_option}
-use Rattle.wesl_json_write.proofs.Expressions.{option-none, option-some}
+use Rattle.wesl_json_words.specs.Values.{value_in, with_member, with_option}
+use Rattle.wesl_json_words.proofs.Expressions.{option-none, option-some}
 
 pub holds-as : (o : Object) (ms ns : Members) → ms ≡ ns → Holds o ms → Holds o ns
 holds-as o ms ns same h = subst (λ z. Holds o z) same h

@@ -9,7 +9,7 @@ use Rattle.wesl_json_form.specs.Schema.{second_form}
 use Rattle.wesl_json_light.specs.View.{items_view, members_view, piece_view}
 use Rattle.wesl_json_light.specs.declared.piece.Piece.{Piece, the_lemmas}
 use Rattle.wesl_json_light.specs.declared.piece.Piece as pieces
-use Rattle.wesl_json_write.specs.Values.{place_label, placed_data, truth_text, with_member, with_place}
+use Rattle.wesl_json_words.specs.Values.{place_label, placed_data, truth_text, with_member, with_place}
 use Rattle.wesl_json_write.proofs.Lists.{view-list}
 
 pub placed-as : (spans : Bool) (k : Kind) (span : Span) (key : Text) (d : Data) → is_placed spans (place_label spans k span) ≡ true → placed_data span.start span.end key d ≡ with_place spans (place_label spans k span) key d

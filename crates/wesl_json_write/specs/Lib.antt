@@ -1,3 +1,2 @@
-pub mod Values
+pub mod Pieces
 pub mod Objects
-pub mod Additions

@@ -3,7 +3,7 @@ use Rattle.std.specs.Prelude.{◌≡◌, IfSome, Result, Vec}
 use Rattle.serde_json.specs.Data.{Data, Items, Members}
 use Rattle.wesl_json_light.specs.View.{members_view}
 use Rattle.wesl_json_light.specs.declared.piece.Piece.{Piece}
-use Rattle.wesl_json_write.specs.Values.{AreWritten, IsWritten}
+use Rattle.wesl_json_write.specs.Pieces.{AreWritten, IsWritten}
 use Rattle.wesl_json_write.specs.declared.object.Object.{Object}
 
 -- the members of an object, unless one of them was refused

@@ -5,8 +5,9 @@ ghost use Rattle.wesl_json_form.specs.Schema.{an_attribute};
 ghost use Rattle.wesl_json_form.specs.Writing.{texts_value};
 ghost use Rattle.wesl_tree_syntax.specs.View.{attribute_view, attributes_tree, texts_of};
 ghost use Rattle.wesl_json_write.specs.Objects.{Holds};
-ghost use Rattle.wesl_json_write.specs.Values.{AreWritten, IsWritten, attribute_at, attribute_in, items_in, with_member, worded, expression_data};
-ghost use Rattle.wesl_json_write.specs.Additions.{custom_tree, names_members, rule_members, workgroup_object};
+ghost use Rattle.wesl_json_words.specs.Values.{attribute_at, attribute_in, items_in, with_member, worded, expression_data};
+ghost use Rattle.wesl_json_write.specs.Pieces.{AreWritten, IsWritten};
+ghost use Rattle.wesl_json_words.specs.Additions.{custom_tree, names_members, rule_members, workgroup_object};
 
 use crate::expression::{
     applied_object, expression_value, expression_values, with_optional_expression,
@@ -49,7 +50,7 @@ fn attribute_value<'a>(
 }
 
 // Where it has no place.
-#[tactic(auto, unfolding(crate::specs::Values::placed_in, crate::specs::Values::placed_at, crate::specs::Values::with_member, crate::specs::Values::with_list, crate::specs::Values::with_option))]
+#[tactic(auto, unfolding(wesl_json_words::specs::Values::placed_in, wesl_json_words::specs::Values::placed_at, wesl_json_words::specs::Values::with_member, wesl_json_words::specs::Values::with_list, wesl_json_words::specs::Values::with_option))]
 fn bare_attribute_value<'a>(
     alloc: Global,
     spans: bool,

@@ -5,17 +5,18 @@ ghost use Rattle.wesl_json_form.specs.Schema.{a_declaration, a_member, a_paramet
 ghost use Rattle.wesl_tree_syntax.specs.Tree.{branch, member_node, parameters as parameters_kind, void};
 ghost use Rattle.wesl_tree_syntax.specs.View.{alias_view, assert_view, declaration_view, declarations_tree, function_view, global_view, kind_tree, listed, member_view, parameter_view, struct_view};
 ghost use Rattle.wesl_json_write.specs.Objects.{Extends, Holds};
-ghost use Rattle.wesl_json_write.specs.Values.{AreWritten, IsWritten, placed_at, declaration_at, declaration_in, items_in, kind_text, placed_in, statement_in, value_in, with_space as with_space_of};
-ghost use Rattle.wesl_json_write.specs.Additions.{if_access, struct_items, declared_members};
+ghost use Rattle.wesl_json_words.specs.Values.{placed_at, declaration_at, declaration_in, items_in, placed_in, statement_in, value_in, with_space as with_space_of};
+ghost use Rattle.wesl_json_write.specs.Pieces.{AreWritten, IsWritten};
+ghost use Rattle.wesl_json_words.specs.Additions.{if_access, struct_items, declared_members};
 
 use crate::attribute::attribute_values;
 use crate::expression::{
     expression_value, type_value, with_optional_expression, with_optional_type,
 };
-use crate::object::{Object, Written, WrittenList, spelling, with_item, with_span};
+use crate::object::{Object, Written, WrittenList, with_item, with_span};
 use crate::statement::body_value;
-use crate::words::{access_word, space_word};
 use std::alloc::Global;
+use wesl_json_words::{access_word, kind_word, space_word, spelling};
 use wesl_tree_names::{Names, Span};
 use wesl_tree_syntax::{
     AccessMode, Attributes, ConstAssert, Declaration, DeclarationKind, FormalParameter, Function,
@@ -115,18 +116,6 @@ pub(crate) fn declaration_value<'a>(
     with_space(object, spans, names, declaration.kind)
         .list("attrs", attributes)
         .worded(kind_word(declaration.kind))
-}
-
-/// The word of a declaration.
-pub fn kind_word(kind: DeclarationKind) -> &'static str
-    ensures { result.now ≡ kind_text kind }
-{
-    match kind {
-        DeclarationKind::Const => "const",
-        DeclarationKind::Override => "override",
-        DeclarationKind::Let => "let",
-        DeclarationKind::Var(_) => "var",
-    }
 }
 
 // The object with the space and the access mode of a variable.

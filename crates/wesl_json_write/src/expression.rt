@@ -7,13 +7,14 @@ ghost use Rattle.wesl_json_form.specs.Schema.{a_path, a_template_argument, a_typ
 ghost use Rattle.wesl_tree_syntax.specs.Tree.{binary, branch, list, literal as literal_kind};
 ghost use Rattle.wesl_tree_syntax.specs.View.{argument_view, boxed_path, call_view, expression_tree, expression_view, listed, literal_tree, optional, path_tree, type_view};
 ghost use Rattle.wesl_json_write.specs.Objects.{Extends, Holds};
-ghost use Rattle.wesl_json_write.specs.Values.{AreWritten, IsWritten, expression_at, binary_object, call_members, expression_in, items_in, value_in, with_option};
-ghost use Rattle.wesl_json_write.specs.Additions.{argued_data, argued_members, if_expression, plain_type_data, unary_object};
+ghost use Rattle.wesl_json_words.specs.Values.{expression_at, binary_object, call_members, expression_in, items_in, value_in, with_option};
+ghost use Rattle.wesl_json_write.specs.Pieces.{AreWritten, IsWritten};
+ghost use Rattle.wesl_json_words.specs.Additions.{argued_data, argued_members, if_expression, plain_type_data, unary_object};
 
-use crate::object::{Object, Written, WrittenList, spelling, text_value, with_item, with_span};
-use crate::words::{binary_word, unary_word};
+use crate::object::{Object, Written, WrittenList, text_value, with_item, with_span};
 use std::alloc::{AllocError, Global};
 use wesl_json_light::Piece;
+use wesl_json_words::{binary_word, spelling, unary_word};
 use wesl_tree_names::{Ident, ModulePath, Names, Span};
 use wesl_tree_syntax::{
     BinaryOperator, Expression, ExpressionNode, FunctionCall, Literal, TemplateArg, TypeExpression,

@@ -3,13 +3,15 @@ ghost use Rattle.std.specs.Prelude.{codes};
 ghost use Rattle.wesl_json_form.specs.Schema.{a_content, a_directive, an_entry, an_import, node as node_form};
 ghost use Rattle.wesl_tree_syntax.specs.Tree.{directive_node, import_node, list};
 ghost use Rattle.wesl_tree_syntax.specs.View.{content_view, directive_view, directives_tree, entry_view, import_view, imports_tree, item_view, listed};
-ghost use Rattle.wesl_json_write.specs.Values.{AreWritten, IsWritten, placed_at, items_in, placed_in, value_in};
-ghost use Rattle.wesl_json_write.specs.Additions.{attributed, names_members, rule_members};
+ghost use Rattle.wesl_json_words.specs.Values.{placed_at, items_in, placed_in, value_in};
+ghost use Rattle.wesl_json_write.specs.Pieces.{AreWritten, IsWritten};
+ghost use Rattle.wesl_json_words.specs.Additions.{attributed, names_members, rule_members};
 
 use crate::attribute::{attribute_values, severity_object, text_values};
 use crate::expression::with_optional_path;
-use crate::object::{Object, Written, WrittenList, spelling, with_item, with_span};
+use crate::object::{Object, Written, WrittenList, with_item, with_span};
 use std::alloc::Global;
+use wesl_json_words::spelling;
 use wesl_tree_names::{Names, Span};
 use wesl_tree_syntax::{
     Attributes, GlobalDirective, GlobalDirectiveNode, Import, ImportContent, ImportItem,
@@ -158,7 +160,7 @@ fn directive_value<'a>(
 }
 
 // Where it has no place.
-#[tactic(auto, unfolding(crate::specs::Values::placed_in, crate::specs::Values::with_member, crate::specs::Values::with_list, crate::specs::Values::items_in))]
+#[tactic(auto, unfolding(wesl_json_words::specs::Values::placed_in, wesl_json_words::specs::Values::with_member, wesl_json_words::specs::Values::with_list, wesl_json_words::specs::Values::items_in))]
 fn bare_directive_value<'a>(
     alloc: Global,
     spans: bool,

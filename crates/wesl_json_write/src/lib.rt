@@ -8,10 +8,8 @@ mod import;
 mod object;
 mod statement;
 mod unit;
-mod words;
 
-pub use declaration::{global_value, kind_word};
+pub use declaration::global_value;
 pub use import::{directive_values, import_values};
-pub use object::{Written, WrittenList, is_shown, spelling, truth_word};
+pub use object::{Written, WrittenList};
 pub use unit::value_of_unit;
-pub use words::{access_word, assignment_word, binary_word, space_word, unary_word};

@@ -1,19 +1,20 @@
 //! Objects that are written.
-ghost use Rattle.std.specs.Prelude.{◌≡◌, codes};
+ghost use Rattle.std.specs.Prelude.{codes};
 ghost use Rattle.serde_json.specs.Data.{Data, Items, Members, array, no_members, object, string};
 ghost use Rattle.wesl_json_light.specs.View.{members_view, piece_view};
 ghost use Rattle.wesl_tree_names.specs.Path.{Text};
-ghost use Rattle.wesl_json_form.specs.Writing.{is_placed, span_value};
+ghost use Rattle.wesl_json_form.specs.Writing.{span_value};
 ghost use Rattle.wesl_tree_syntax.specs.Tree.{Kind};
-ghost use Rattle.wesl_tree_syntax.specs.Unit.{name_in};
-ghost use Rattle.wesl_json_write.specs.Values.{AreWritten, IsWritten, items_then, place_label, placed_data, truth_text, with_list, with_member, worded};
-ghost use Rattle.wesl_json_write.specs.Additions.{with_span_of};
+ghost use Rattle.wesl_json_words.specs.Values.{items_then, placed_data, with_list, with_member, worded};
+ghost use Rattle.wesl_json_write.specs.Pieces.{AreWritten, IsWritten};
+ghost use Rattle.wesl_json_words.specs.Additions.{with_span_of};
 ghost use Rattle.wesl_json_write.specs.Objects.{ExtendsByList};
 
 use std::alloc::{AllocError, Global};
 use std::mem;
 use wesl_json_light::{Members, Piece};
-use wesl_tree_names::{Ident, Names, Span};
+use wesl_json_words::{is_shown, truth_word};
+use wesl_tree_names::Span;
 
 /// What is written, unless there is no memory for it.
 pub type Written<'a> = Result<Piece<'a>, AllocError>;
@@ -56,7 +57,7 @@ impl<'a> Object<'a> {
     }
 
     /// The object with a piece at `key`.
-    #[tactic(auto, unfolding(crate::specs::Objects::Holds, crate::specs::Values::with_member))]
+    #[tactic(auto, unfolding(crate::specs::Objects::Holds, wesl_json_words::specs::Values::with_member))]
     pub(crate) fn value(self, key: &'a str, value: Written<'a>) -> Object<'a>
         ensures { (ms : Members) (d : Data) → Holds self.entry ms → IsWritten value.entry d → Holds result (with_member key.now d ms) }
     {
@@ -137,13 +138,6 @@ impl<'a> Object<'a> {
     }
 }
 
-/// Whether a span is to be written: where spans are, and where it is some place.
-pub fn is_shown(spans: bool, span: Span) -> bool
-    ensures { (k : Kind) → result ≡ is_placed spans (place_label spans k span) }
-{
-    spans && !(span.start == 0 && span.end == 0)
-}
-
 /// The piece of a node with its span, where that is to be written. A short form becomes an object, a text in it at `key`.
 pub(crate) fn with_span<'a>(
     alloc: Global,
@@ -186,24 +180,6 @@ fn placed_piece<'a>(alloc: Global, piece: Piece<'a>, span: Span, key: &'a str) -
         }
         Piece::List(_) => Ok(piece),
         Piece::Whole(_) => Ok(piece),
-    }
-}
-
-/// The word of a truth value, where it stands as an object.
-pub fn truth_word(truth: bool) -> &'static str
-    ensures { result.now ≡ truth_text truth }
-{
-    if truth { "true" } else { "false" }
-}
-
-/// The name of an identifier, and the empty text of one that has none in the table.
-pub fn spelling<'a>(names: &'a Names, ident: Ident) -> &'a str
-    ensures { result.now ≡ name_in names.now ident.0 }
-{
-    if ident.0 < names.len() {
-        names.name(ident)
-    } else {
-        ""
     }
 }
 

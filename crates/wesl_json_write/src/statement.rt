@@ -5,15 +5,16 @@ ghost use Rattle.wesl_json_form.specs.Schema.{a_body, a_break_if, a_case, a_clau
 ghost use Rattle.wesl_tree_syntax.specs.Tree.{clauses as clauses_kind, list, statements as statements_kind};
 ghost use Rattle.wesl_tree_syntax.specs.View.{break_if_view, clause_view, compound_view, continuing_view, else_if_view, else_view, if_view, listed, selector_view, statement_tree, statement_view};
 ghost use Rattle.wesl_json_write.specs.Objects.{Extends, ExtendsBy, Holds};
-ghost use Rattle.wesl_json_write.specs.Values.{AreWritten, IsWritten, statement_at, body_members, items_in, statement_in, value_in, with_clause, worded, with_attributes};
-ghost use Rattle.wesl_json_write.specs.Additions.{assigned_object, attributed, called_members, if_break_if, if_continuing, if_else, if_statement_there, operand_members, returned, with_decision};
+ghost use Rattle.wesl_json_words.specs.Values.{statement_at, body_members, items_in, statement_in, value_in, with_clause, worded, with_attributes};
+ghost use Rattle.wesl_json_write.specs.Pieces.{AreWritten, IsWritten};
+ghost use Rattle.wesl_json_words.specs.Additions.{assigned_object, attributed, called_members, if_break_if, if_continuing, if_else, if_statement_there, operand_members, returned, with_decision};
 
 use crate::attribute::attribute_values;
 use crate::declaration::{assert_value, declaration_value, void_value};
 use crate::expression::{call_object, expression_value, with_optional_expression};
 use crate::object::{Object, Written, WrittenList, with_item, with_span};
-use crate::words::assignment_word;
 use std::alloc::Global;
+use wesl_json_words::assignment_word;
 use wesl_tree_names::{Names, Span};
 use wesl_tree_syntax::{
     AssignmentOperator, Attributes, BreakIfStatement, CaseSelector, CompoundStatement,

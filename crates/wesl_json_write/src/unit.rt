@@ -7,7 +7,7 @@ ghost use Rattle.wesl_json_form.specs.Writing.{put_extra};
 ghost use Rattle.wesl_json_write.specs.Objects.{Extends};
 ghost use Rattle.wesl_json_form.specs.Units.{written_as};
 ghost use Rattle.wesl_tree.specs.Translation.{unit_view};
-ghost use Rattle.wesl_json_write.specs.Values.{IsWritten};
+ghost use Rattle.wesl_json_write.specs.Pieces.{IsWritten};
 
 use crate::declaration::global_values;
 use crate::import::{directive_values, import_values};

@@ -3,8 +3,8 @@ use Rattle.wesl_tree_syntax.specs.Tree.{declaration_node}
 use Rattle.wesl_tree_syntax.specs.View.{global_view, placed}
 use Rattle.wesl_json_form.specs.Schema.{a_declaration}
 use Rattle.wesl_json_light.specs.Numbers.{has_number}
-use Rattle.wesl_json_write.specs.Values.{placed_at}
-use Rattle.wesl_json_write.proofs.Lists.{placed-value}
+use Rattle.wesl_json_words.specs.Values.{placed_at}
+use Rattle.wesl_json_words.proofs.Lists.{placed-value}
 use Rattle.wesl_json.proofs.PlaceLemmas.{has_from, has-here, has-later, has-none}
 use Rattle.wesl_json.proofs.places.declarations_have_number.Goals as goal
 

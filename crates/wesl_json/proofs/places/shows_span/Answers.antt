@@ -3,7 +3,7 @@ use Rattle.std.proofs.lemmas.Result.{IfOk-weaker}
 use Rattle.wesl_tree_syntax.specs.View.{declarations_tree, directives_tree, imports_tree}
 use Rattle.wesl_tree.specs.Translation.{unit_view}
 use Rattle.wesl_json_form.specs.Schema.{a_declaration, a_directive, an_import}
-use Rattle.wesl_json_write.specs.Values.{items_in}
+use Rattle.wesl_json_words.specs.Values.{items_in}
 use Rattle.wesl_json.proofs.PlaceLemmas.{declarations-show, directives_have, directives-show, imports_have, imports-show, same-list}
 use Rattle.wesl_json.proofs.places.shows_span.Goals as goal
 

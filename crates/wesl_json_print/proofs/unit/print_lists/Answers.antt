@@ -6,8 +6,8 @@ use Rattle.wesl_json_form.specs.Schema.{a_declaration, a_directive, an_import, s
 use Rattle.wesl_json_form.specs.Units.{written_as}
 use Rattle.wesl_json_form.specs.Writing.{put_extra}
 use Rattle.wesl_json_print_nodes.proofs.Adding.{then}
-use Rattle.wesl_json_write.specs.Values.{bare, items_in, with_list}
-use Rattle.wesl_json_write.proofs.Imports.{as-unit}
+use Rattle.wesl_json_words.specs.Values.{bare, items_in, with_list}
+use Rattle.wesl_json_words.proofs.Imports.{as-unit}
 use Rattle.wesl_json_print.proofs.Printed.{form_added, unit_printed}
 use Rattle.wesl_json_print.proofs.unit.print_lists.Goals as goal
 

@@ -1,6 +1,6 @@
 use Rattle.wesl_tree_syntax.specs.declared.attribute.Attribute.TheVariants as attr
 use Rattle.std.proofs.Common.{ap, codes, refl, rules, string_bytes, ◌∙◌}
-use Rattle.wesl_json_write.specs.Values.{attribute_in, placed_at, placed_in, with_list, with_member, with_option, worded}
+use Rattle.wesl_json_words.specs.Values.{attribute_in, placed_at, placed_in, with_list, with_member, with_option, worded}
 use Rattle.wesl_json_print_nodes.specs.Printing.{custom_tree, diagnosed}
 use Rattle.serde_json.specs.Data.{no_members, string}
 use Rattle.wesl_json_print_nodes.proofs.Attributes.{attribute_printed}

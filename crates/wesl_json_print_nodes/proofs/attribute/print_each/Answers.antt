@@ -2,7 +2,7 @@ use Rattle.std.proofs.Common.{sym}
 use Rattle.wesl_tree_syntax.specs.Tree.{attribute_node}
 use Rattle.wesl_tree_syntax.specs.View.{attribute_view, placed}
 use Rattle.wesl_json_form.specs.Schema.{an_attribute}
-use Rattle.wesl_json_write.proofs.Lists.{placed-value}
+use Rattle.wesl_json_words.proofs.Lists.{placed-value}
 use Rattle.wesl_json_print_nodes.proofs.Lists.{all_nodes_before, no_nodes_before, one_node_more}
 use Rattle.wesl_json_print_nodes.proofs.attribute.print_each.Goals as goal
 

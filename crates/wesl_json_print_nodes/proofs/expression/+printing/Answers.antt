@@ -1,15 +1,15 @@
 use Rattle.std.proofs.Common.{◌≡◌}
-use Rattle.wesl_json_write.specs.Values.{expression_at, expression_data}
+use Rattle.wesl_json_words.specs.Values.{expression_at, expression_data}
 use Rattle.std.specs.Box.{box_value}
 use Rattle.std.proofs.Common.{ap, codes, refl, rules, sym, ◌∙◌}
 use Rattle.std.proofs.lemmas.Grind.{common_steps}
 use Rattle.wesl_tree_syntax.specs.Tree.{expression_node}
 use Rattle.wesl_tree_syntax.specs.View.{argument_view, boxed_path, expression_tree, expression_view, type_view}
 use Rattle.wesl_json_form.specs.Schema.{a_path, a_template_argument, a_type, an_expression, leaf, node}
-use Rattle.wesl_json_write.proofs.Lists.{placed-value}
-use Rattle.wesl_json_write.proofs.Within.{written-argument}
-use Rattle.wesl_json_write.proofs.Expressions.{argument-parts}
-use Rattle.wesl_json_write.specs.Values.{value_in}
+use Rattle.wesl_json_words.proofs.Lists.{placed-value}
+use Rattle.wesl_json_words.proofs.Within.{written-argument}
+use Rattle.wesl_json_words.proofs.Expressions.{argument-parts}
+use Rattle.wesl_json_words.specs.Values.{value_in}
 use Rattle.wesl_tree_syntax.specs.declared.expression.TemplateArg.{out-TemplateArg}
 use Rattle.json.specs.Tree.{json_tokens}
 use Rattle.serde_json.specs.Written.{outline}

@@ -2,7 +2,7 @@ use Rattle.std.proofs.Common.{rules, sym}
 use Rattle.wesl_tree_syntax.specs.Tree.{expression_node}
 use Rattle.wesl_tree_syntax.specs.View.{expression_tree, expression_view}
 use Rattle.wesl_json_form.specs.Schema.{an_expression, node}
-use Rattle.wesl_json_write.proofs.Lists.{placed-value}
+use Rattle.wesl_json_words.proofs.Lists.{placed-value}
 use Rattle.wesl_json_print_nodes.proofs.Parts.{no_option, some_option}
 use Rattle.wesl_json_print_nodes.proofs.expression.print_optional_expression.Goals as goal
 

@@ -7,7 +7,7 @@ use Rattle.wesl_tree_names.specs.Path.{path_view}
 use Rattle.wesl_tree_names.specs.PathText.{to_text}
 use Rattle.wesl_tree_syntax.specs.View.{boxed_path}
 use Rattle.wesl_json_form.specs.Schema.{a_path, leaf}
-use Rattle.wesl_json_write.proofs.Expressions.{path-value}
+use Rattle.wesl_json_words.proofs.Expressions.{path-value}
 use Rattle.wesl_json_print_nodes.proofs.Adding.{keyed, told}
 use Rattle.wesl_json_print_nodes.proofs.Parts.{no_option, some_option}
 use Rattle.wesl_json_print_nodes.proofs.expression.print_optional_path.Goals as goal

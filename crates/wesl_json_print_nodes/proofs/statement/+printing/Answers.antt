@@ -1,4 +1,4 @@
-use Rattle.wesl_json_write.specs.Values.{statement_at}
+use Rattle.wesl_json_words.specs.Values.{statement_at}
 use Rattle.std.proofs.Common.{◌≡◌}
 use Rattle.std.proofs.Common.{codes, refl, rules, sym}
 use Rattle.std.proofs.lemmas.Grind.{common_steps}
@@ -6,8 +6,8 @@ use Rattle.std.specs.Box.{box_value}
 use Rattle.wesl_tree_syntax.specs.Tree.{statement_node}
 use Rattle.wesl_tree_syntax.specs.View.{break_if_view, clause_view, continuing_view, else_if_view, else_view, expression_tree, statement_tree, statement_view}
 use Rattle.wesl_json_form.specs.Schema.{a_break_if, a_clause, a_continuing, a_statement, an_elif, an_else, an_expression, node}
-use Rattle.wesl_json_write.proofs.Lists.{placed-value}
-use Rattle.wesl_json_write.proofs.Blocks.{as-assignment, as-break, as-call, as-continue, as-decrement, as-discard, as-increment, as-return, boxed-statement}
+use Rattle.wesl_json_words.proofs.Lists.{placed-value}
+use Rattle.wesl_json_words.proofs.Blocks.{as-assignment, as-break, as-call, as-continue, as-decrement, as-discard, as-increment, as-return, boxed-statement}
 use Rattle.wesl_json_print_nodes.proofs.Adding.{value_is, keyed, then}
 use Rattle.wesl_json_print_nodes.proofs.Parts.{no_option, option_added, some_option, span_added}
 use Rattle.wesl_json_print_nodes.proofs.Lists.{all_nodes_before, no_nodes, no_nodes_before, one_node_more, some_nodes}

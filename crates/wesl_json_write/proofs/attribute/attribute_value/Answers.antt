@@ -1,7 +1,7 @@
 use Rattle.std.proofs.Common.{sym, ◌∙◌}
 use Rattle.std.proofs.lemmas.Result.{IfOk-weaker}
 use Rattle.wesl_tree_syntax.specs.Tree.{attribute_node}
-use Rattle.wesl_json_write.proofs.PlacedShort.{placed-attribute}
+use Rattle.wesl_json_words.proofs.PlacedShort.{placed-attribute}
 use Rattle.wesl_json_write.proofs.attribute.attribute_value.Goals as goal
 
 pub returns : goal.returns

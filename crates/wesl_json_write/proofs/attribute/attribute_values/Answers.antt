@@ -2,7 +2,8 @@ use Rattle.std.proofs.Common.{sym}
 use Rattle.wesl_tree_syntax.specs.Tree.{attribute_node}
 use Rattle.wesl_tree_syntax.specs.View.{attribute_view, placed}
 use Rattle.wesl_json_form.specs.Schema.{an_attribute}
-use Rattle.wesl_json_write.proofs.Lists.{items-none, items-turn, items-whole, placed-value}
+use Rattle.wesl_json_words.proofs.Lists.{placed-value}
+use Rattle.wesl_json_write.proofs.Lists.{items-none, items-turn, items-whole}
 use Rattle.wesl_json_write.proofs.attribute.attribute_values.Goals as goal
 
 pub loop-attribute-preserved : goal.loop-attribute-preserved

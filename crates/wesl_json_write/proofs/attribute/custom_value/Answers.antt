@@ -1,7 +1,7 @@
 use Rattle.std.proofs.Common.{refl, rules}
 use Rattle.std.proofs.lemmas.Result.{IfOk-weaker}
 use Rattle.wesl_json_light.specs.View.{piece_view}
-use Rattle.wesl_json_write.proofs.Imports.{as-named, as-custom}
+use Rattle.wesl_json_words.proofs.Imports.{as-named, as-custom}
 use Rattle.wesl_json_write.proofs.attribute.custom_value.Goals as goal
 
 pub returns-in-None : goal.returns-in-None

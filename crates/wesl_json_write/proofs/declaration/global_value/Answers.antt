@@ -2,7 +2,7 @@ use Rattle.std.proofs.Common.{codes, sym, ◌∙◌}
 use Rattle.std.proofs.lemmas.Result.{IfOk-weaker}
 use Rattle.wesl_tree_syntax.specs.View.{global_view}
 use Rattle.wesl_tree_syntax.specs.Tree.{declaration_node}
-use Rattle.wesl_json_write.proofs.Placed.{placed-declaration}
+use Rattle.wesl_json_words.proofs.Placed.{placed-declaration}
 use Rattle.wesl_json_write.proofs.declaration.global_value.Goals as goal
 
 pub returns : goal.returns

@@ -2,7 +2,8 @@ use Rattle.std.proofs.Common.{sym}
 use Rattle.wesl_tree_syntax.specs.Tree.{member_node}
 use Rattle.wesl_tree_syntax.specs.View.{member_view, placed}
 use Rattle.wesl_json_form.specs.Schema.{a_member}
-use Rattle.wesl_json_write.proofs.Lists.{items-none, items-turn, items-whole, placed-value}
+use Rattle.wesl_json_words.proofs.Lists.{placed-value}
+use Rattle.wesl_json_write.proofs.Lists.{items-none, items-turn, items-whole}
 use Rattle.wesl_json_write.proofs.declaration.member_values.Goals as goal
 
 pub loop-member-preserved : goal.loop-member-preserved

@@ -1,7 +1,7 @@
 use Rattle.std.proofs.Common.{rules}
 use Rattle.std.proofs.lemmas.Result.{IfOk-weaker}
 use Rattle.wesl_json_light.specs.View.{piece_view}
-use Rattle.wesl_json_write.proofs.Declarations.{as-struct}
+use Rattle.wesl_json_words.proofs.Declarations.{as-struct}
 use Rattle.wesl_json_write.proofs.declaration.struct_value.Goals as goal
 
 pub returns : goal.returns

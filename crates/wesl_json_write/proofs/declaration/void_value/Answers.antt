@@ -1,6 +1,6 @@
 use Rattle.std.proofs.Common.{sym, ◌∙◌, rules}
 use Rattle.std.proofs.lemmas.Result.{IfOk-weaker}
-use Rattle.wesl_json_write.proofs.Declarations.{written-global-void, written-local-void}
+use Rattle.wesl_json_words.proofs.Declarations.{written-global-void, written-local-void}
 use Rattle.wesl_json_write.proofs.declaration.void_value.Goals as goal
 
 pub returns-clause-global : goal.returns-clause-global

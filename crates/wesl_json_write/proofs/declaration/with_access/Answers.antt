@@ -3,7 +3,7 @@ use Rattle.serde_json.specs.Data.{string}
 use Rattle.wesl_tree_syntax.specs.View.{access_tree}
 use Rattle.wesl_json_form.specs.Schema.{leaf, one_of}
 use Rattle.wesl_json_form.specs.Words.{access_words}
-use Rattle.wesl_json_write.proofs.Declarations.{access-value}
+use Rattle.wesl_json_words.proofs.Declarations.{access-value}
 use Rattle.wesl_json_write.proofs.Objects.{holds-none, holds-some}
 use Rattle.wesl_json_write.proofs.declaration.with_access.Goals as goal
 

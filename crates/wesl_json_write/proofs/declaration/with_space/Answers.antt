@@ -1,5 +1,5 @@
 use Rattle.std.proofs.Common.{refl, rules}
-use Rattle.wesl_json_write.proofs.Declarations.{space-const, space-override, space-let, space-none, space-some}
+use Rattle.wesl_json_words.proofs.Declarations.{space-const, space-override, space-let, space-none, space-some}
 use Rattle.wesl_json_write.proofs.Objects.{holds-as}
 use Rattle.wesl_json_write.proofs.declaration.with_space.Goals as goal
 

@@ -5,12 +5,13 @@ use Rattle.wesl_tree_syntax.specs.Tree.{expression_node}
 use Rattle.wesl_tree_syntax.specs.View.{argument_view, expression_tree, expression_view}
 use Rattle.wesl_tree_syntax.specs.declared.expression.TemplateArg.{out-TemplateArg}
 use Rattle.wesl_json_form.specs.Schema.{a_template_argument, an_expression, node}
-use Rattle.wesl_json_write.specs.Values.{value_in}
-use Rattle.wesl_json_write.proofs.Lists.{items-none, items-turn, items-whole, placed-value}
+use Rattle.wesl_json_words.specs.Values.{value_in}
+use Rattle.wesl_json_words.proofs.Lists.{placed-value}
+use Rattle.wesl_json_write.proofs.Lists.{items-none, items-turn, items-whole}
 use Rattle.wesl_json_write.proofs.Objects.{holds-as}
-use Rattle.wesl_json_write.proofs.PlacedShort.{placed-expression}
-use Rattle.wesl_json_write.proofs.Within.{written-argument}
-use Rattle.wesl_json_write.proofs.Expressions.{argument-parts, as-parenthesized, as-component, as-indexing, as-unary, as-binary, as-call, as-type, as-call-members, as-argued}
+use Rattle.wesl_json_words.proofs.PlacedShort.{placed-expression}
+use Rattle.wesl_json_words.proofs.Within.{written-argument}
+use Rattle.wesl_json_words.proofs.Expressions.{argument-parts, as-parenthesized, as-component, as-indexing, as-unary, as-binary, as-call, as-type, as-call-members, as-argued}
 use Rattle.wesl_json_write.proofs.expression.+writing.Goals as goal
 
 pub bare_expression_value-returns-in-Parenthesized : goal.bare_expression_value-returns-in-Parenthesized

@@ -2,7 +2,7 @@ use Rattle.std.proofs.Common.{◌∙◌, rules}
 use Rattle.std.proofs.lemmas.Result.{IfOk-weaker}
 use Rattle.wesl_json_light.specs.View.{piece_view}
 use Rattle.wesl_json_light.specs.declared.piece.Piece.{the_lemmas}
-use Rattle.wesl_json_write.proofs.Expressions.{as-truth, as-literal}
+use Rattle.wesl_json_words.proofs.Expressions.{as-truth, as-literal}
 use Rattle.wesl_json_write.proofs.expression.literal_value.Goals as goal
 
 pub returns-in-Bool : goal.returns-in-Bool

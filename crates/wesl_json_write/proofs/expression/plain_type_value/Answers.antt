@@ -2,7 +2,7 @@ use Rattle.std.proofs.Common.{◌∙◌, ap, rules}
 use Rattle.std.proofs.lemmas.Result.{IfOk-weaker}
 use Rattle.serde_json.specs.Data.{string}
 use Rattle.wesl_json_light.specs.View.{piece_view}
-use Rattle.wesl_json_write.proofs.Expressions.{as-plain-name, as-pathed-name}
+use Rattle.wesl_json_words.proofs.Expressions.{as-plain-name, as-pathed-name}
 use Rattle.wesl_json_write.proofs.expression.plain_type_value.Goals as goal
 
 pub returns-in-None : goal.returns-in-None

@@ -2,7 +2,7 @@ use Rattle.std.proofs.Common.{sym, rules}
 use Rattle.wesl_tree_syntax.specs.Tree.{expression_node}
 use Rattle.wesl_tree_syntax.specs.View.{expression_tree, expression_view}
 use Rattle.wesl_json_form.specs.Schema.{node, an_expression}
-use Rattle.wesl_json_write.proofs.Lists.{placed-value}
+use Rattle.wesl_json_words.proofs.Lists.{placed-value}
 use Rattle.wesl_json_write.proofs.Objects.{holds-none, holds-some}
 use Rattle.wesl_json_write.proofs.expression.with_optional_expression.Goals as goal
 

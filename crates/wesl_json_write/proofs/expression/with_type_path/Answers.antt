@@ -5,7 +5,7 @@ use Rattle.wesl_tree_names.specs.Path.{path_view}
 use Rattle.wesl_tree_names.specs.PathText.{to_text}
 use Rattle.wesl_tree_syntax.specs.View.{boxed_path}
 use Rattle.wesl_json_form.specs.Schema.{leaf, a_path}
-use Rattle.wesl_json_write.proofs.Expressions.{path-value}
+use Rattle.wesl_json_words.proofs.Expressions.{path-value}
 use Rattle.wesl_json_write.proofs.Objects.{holds-none, holds-some}
 use Rattle.wesl_json_write.proofs.expression.with_type_path.Goals as goal
 

@@ -3,7 +3,7 @@ use Rattle.std.proofs.lemmas.Result.{IfOk-weaker}
 use Rattle.wesl_json_light.specs.View.{piece_view}
 use Rattle.wesl_tree_syntax.specs.View.{entry_view}
 use Rattle.wesl_json_form.specs.Schema.{an_entry}
-use Rattle.wesl_json_write.proofs.Imports.{as-collection, as-entry}
+use Rattle.wesl_json_words.proofs.Imports.{as-collection, as-entry}
 use Rattle.wesl_json_write.proofs.Lists.{items-none, items-turn, items-whole}
 use Rattle.wesl_json_write.proofs.import.+writing.Goals as goal
 

@@ -1,7 +1,7 @@
 use Rattle.std.proofs.Common.{rules}
 use Rattle.std.proofs.lemmas.Result.{IfOk-weaker}
 use Rattle.wesl_json_light.specs.View.{piece_view}
-use Rattle.wesl_json_write.proofs.Imports.{as-import}
+use Rattle.wesl_json_words.proofs.Imports.{as-import}
 use Rattle.wesl_json_write.proofs.import.bare_import_value.Goals as goal
 
 pub returns : goal.returns

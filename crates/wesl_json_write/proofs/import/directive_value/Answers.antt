@@ -2,7 +2,7 @@ use Rattle.std.proofs.Common.{codes, sym, ◌∙◌}
 use Rattle.std.proofs.lemmas.Result.{IfOk-weaker}
 use Rattle.wesl_tree_syntax.specs.View.{directive_view}
 use Rattle.wesl_tree_syntax.specs.Tree.{directive_node}
-use Rattle.wesl_json_write.proofs.Placed.{placed-directive}
+use Rattle.wesl_json_words.proofs.Placed.{placed-directive}
 use Rattle.wesl_json_write.proofs.import.directive_value.Goals as goal
 
 pub returns : goal.returns

@@ -2,7 +2,8 @@ use Rattle.std.proofs.Common.{sym}
 use Rattle.wesl_tree_syntax.specs.Tree.{directive_node}
 use Rattle.wesl_tree_syntax.specs.View.{directive_view, placed}
 use Rattle.wesl_json_form.specs.Schema.{a_directive}
-use Rattle.wesl_json_write.proofs.Lists.{items-none, items-turn, items-whole, placed-value}
+use Rattle.wesl_json_words.proofs.Lists.{placed-value}
+use Rattle.wesl_json_write.proofs.Lists.{items-none, items-turn, items-whole}
 use Rattle.wesl_json_write.proofs.import.directive_values.Goals as goal
 
 pub loop-directive-preserved : goal.loop-directive-preserved

@@ -2,7 +2,8 @@ use Rattle.std.proofs.Common.{sym}
 use Rattle.wesl_tree_syntax.specs.Tree.{import_node}
 use Rattle.wesl_tree_syntax.specs.View.{import_view, placed}
 use Rattle.wesl_json_form.specs.Schema.{an_import}
-use Rattle.wesl_json_write.proofs.Lists.{items-none, items-turn, items-whole, placed-value}
+use Rattle.wesl_json_words.proofs.Lists.{placed-value}
+use Rattle.wesl_json_write.proofs.Lists.{items-none, items-turn, items-whole}
 use Rattle.wesl_json_write.proofs.import.import_values.Goals as goal
 
 pub loop-import-preserved : goal.loop-import-preserved

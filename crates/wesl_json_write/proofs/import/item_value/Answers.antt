@@ -1,7 +1,7 @@
 use Rattle.std.proofs.Common.{rules}
 use Rattle.std.proofs.lemmas.Result.{IfOk-weaker}
 use Rattle.wesl_json_light.specs.View.{piece_view}
-use Rattle.wesl_json_write.proofs.Imports.{as-item, as-renamed}
+use Rattle.wesl_json_words.proofs.Imports.{as-item, as-renamed}
 use Rattle.wesl_json_write.proofs.import.item_value.Goals as goal
 
 pub returns-in-None : goal.returns-in-None

@@ -2,7 +2,7 @@ use Rattle.std.proofs.Common.{◌≡◌, false, true, ap, sym, ◌∙◌, rules}
 use Rattle.std.proofs.lemmas.Result.{IfOk-at_ok, IfOk-weaker}
 use Rattle.wesl_json_form.specs.Writing.{is_placed}
 use Rattle.wesl_json_light.specs.View.{piece_view}
-use Rattle.wesl_json_write.specs.Values.{place_label, with_place}
+use Rattle.wesl_json_words.specs.Values.{place_label, with_place}
 use Rattle.wesl_json_write.proofs.Turned.{bare-as, placed-as}
 use Rattle.wesl_json_write.proofs.object.with_span.Goals as goal
 

@@ -5,10 +5,11 @@ use Rattle.wesl_json_light.specs.View.{piece_view}
 use Rattle.wesl_tree_syntax.specs.Tree.{statement_node}
 use Rattle.wesl_tree_syntax.specs.View.{clause_view, continuing_view, else_if_view, else_view, statement_tree, statement_view}
 use Rattle.wesl_json_form.specs.Schema.{a_clause, a_continuing, a_statement, an_elif, an_else, node}
-use Rattle.wesl_json_write.proofs.Lists.{items-none, items-turn, items-whole, placed-value}
+use Rattle.wesl_json_words.proofs.Lists.{placed-value}
+use Rattle.wesl_json_write.proofs.Lists.{items-none, items-turn, items-whole}
 use Rattle.wesl_json_write.proofs.Objects.{holds-as, holds-none, holds-some}
-use Rattle.wesl_json_write.proofs.Placed.{placed-statement}
-use Rattle.wesl_json_write.proofs.Blocks.{as-assignment, as-block, as-body, as-body-value, as-break, as-call, as-clause, as-continue, as-continuing, as-decrement, as-discard, as-elif, as-else, as-for, as-if, as-if-clause, as-increment, as-loop, as-return, as-switch, as-while, boxed-statement}
+use Rattle.wesl_json_words.proofs.Placed.{placed-statement}
+use Rattle.wesl_json_words.proofs.Blocks.{as-assignment, as-block, as-body, as-body-value, as-break, as-call, as-clause, as-continue, as-continuing, as-decrement, as-discard, as-elif, as-else, as-for, as-if, as-if-clause, as-increment, as-loop, as-return, as-switch, as-while, boxed-statement}
 use Rattle.wesl_json_write.proofs.statement.+writing.Goals as goal
 
 pub body_object-returns : goal.body_object-returns

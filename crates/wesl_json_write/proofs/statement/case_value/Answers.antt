@@ -1,7 +1,7 @@
 use Rattle.std.proofs.Common.{rules}
 use Rattle.std.proofs.lemmas.Result.{IfOk-weaker}
 use Rattle.wesl_json_light.specs.View.{piece_view}
-use Rattle.wesl_json_write.proofs.Imports.{as-default, as-case}
+use Rattle.wesl_json_words.proofs.Imports.{as-default, as-case}
 use Rattle.wesl_json_write.proofs.statement.case_value.Goals as goal
 
 pub returns-in-Default : goal.returns-in-Default

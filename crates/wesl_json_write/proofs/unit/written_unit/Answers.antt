@@ -4,8 +4,8 @@ use Rattle.wesl_json_light.specs.View.{piece_view}
 use Rattle.wesl_tree_syntax.specs.View.{imports_tree, directives_tree, declarations_tree}
 use Rattle.wesl_tree.specs.Translation.{unit_view}
 use Rattle.wesl_json_form.specs.Schema.{a_declaration, a_directive, an_import}
-use Rattle.wesl_json_write.specs.Values.{items_in}
-use Rattle.wesl_json_write.proofs.Imports.{as-unit}
+use Rattle.wesl_json_words.specs.Values.{items_in}
+use Rattle.wesl_json_words.proofs.Imports.{as-unit}
 use Rattle.wesl_json_write.proofs.unit.written_unit.Goals as goal
 
 pub returns : goal.returns

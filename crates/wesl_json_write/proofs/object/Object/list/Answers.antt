@@ -2,7 +2,7 @@ use Rattle.std.proofs.Common.{◌≡◌, ◌<◌, [], length, sym, ap, ◌∙◌
 use Rattle.std.proofs.lemmas.Grind.{common_steps}
 use Rattle.std.proofs.lemmas.Result.{IfOk-at_ok}
 use Rattle.wesl_json_light.specs.View.{items_view}
-use Rattle.wesl_json_write.specs.Values.{with_list}
+use Rattle.wesl_json_words.specs.Values.{with_list}
 use Rattle.wesl_json_write.proofs.Lists.{with_none, with_some}
 use Rattle.wesl_json_write.proofs.Objects.{holds-as}
 use Rattle.wesl_json_write.proofs.object.Object.list.Goals as goal
