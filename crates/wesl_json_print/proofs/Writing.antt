@@ -39,3 +39,7 @@ mutual
   members_told : (ms : Members) → tokens_of (members_events ms) ≡ members_tokens (members_outline ms)
   members_told no_members = refl
   members_told (member k d ms) = ap (λ ts. key k ∷ ts) (tokens_more (events d) (members_events ms) ∙ ap (λ ts. ts ++ tokens_of (members_events ms)) (told d) ∙ ap (λ ts. json_tokens (outline d) ++ ts) (members_told ms))
+
+-- a value that is written
+pub written : (d : Data) {a b : TextSink} → WritesEvents (events d) a b → b.is_refused ≡ false → b.out.tokens ≡ a.out.tokens ++ json_tokens (outline d)
+written d {a} h kept = h.tokens kept ∙ ap (λ ts. a.out.tokens ++ ts) (told d)

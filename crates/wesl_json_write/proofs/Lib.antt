@@ -1,3 +1,3 @@
-pub mod Lists
-pub mod Objects
-pub mod Turned
+pub mod Builder
+pub mod Built
+pub mod Ended

@@ -1,2 +1,2 @@
-pub mod Pieces
-pub mod Objects
+pub mod Building
+pub mod Holds
