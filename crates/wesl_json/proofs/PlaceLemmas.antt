@@ -1,5 +1,5 @@
 -- Whether a span is told of the lists of a unit.
-use Rattle.std.proofs.Common.{◌≡◌, ◌||◌, Bool, true, false, List, ◌++◌, append-nil, refl, sym, ap, ap₂, ◌∙◌}
+use Rattle.std.proofs.Common.{◌≡◌, ◌||◌, Bool, true, false, List, [], ◌∷◌, ◌++◌, append-nil, refl, sym, ap, ap₂, ◌∙◌}
 use Rattle.std.specs.Prelude.{Err, IfOk, Ok, OnOk, Result}
 use Rattle.serde_json.specs.Data.{Data, null, boolean, number, string, array, object, Items, no_items, item, Members, no_members, member}
 use Rattle.wesl_tree_names.specs.Path.{Text}
@@ -9,11 +9,11 @@ use Rattle.wesl_tree_syntax.specs.Unit.{UnitView}
 use Rattle.wesl_json_form.specs.Schema.{Name, a_declaration, a_directive, an_import}
 use Rattle.wesl_json_form.specs.Writing.{put_list}
 use Rattle.wesl_json_light.specs.Numbers.{has_number, items_have_number, members_have_number}
-use Rattle.wesl_json_print_nodes.specs.Events.{events, items_events, key, members_events}
+use Rattle.wesl_json_print_nodes.specs.Events.{Event, events, items_events, key, members_events}
 use Rattle.wesl_json_print_nodes.specs.Printing.{inside}
 use Rattle.wesl_json_print_nodes.specs.declared.printer.Printer.{Printer}
 use Rattle.wesl_json_words.specs.Values.{items_in}
-use Rattle.wesl_json.specs.Numbers.{NotesNumbers, tell_more, tell_number}
+use Rattle.wesl_json.specs.Numbers.{NotesNumbers, is_number, or_none, tell_more, tell_number}
 use Rattle.wesl_json.specs.UnitTexts.{shows_span}
 use Rattle.wesl_json.specs.declared.places.NumberSink.{NumberSink}
 
@@ -68,3 +68,15 @@ spans-told j k l u is ds gs first second third begun h i m kept =
 pub shown : {E : Type 0} {new : Printer NumberSink} (u : UnitView) (r : Result Bool E) (s : NumberSink) → s ≡ new.sink → IfOk r (λ has. has ≡ s.has) → OnOk r (s.is_refused ≡ false) → (new.sink.is_refused ≡ false → new.sink.has ≡ shows_span (placed u)) → IfOk r (λ shows. shows ≡ shows_span (placed u))
 shown u (Ok has) s same given noted told_of = given ∙ ap (λ t. t.has) same ∙ told_of (ap (λ t. t.is_refused) (sym same) ∙ noted)
 shown u (Err e) s same given noted told_of = tt
+
+-- ---- one event
+
+pub no_number : {e : Event} {s : NumberSink} → is_number e ≡ false → NotesNumbers (e ∷ []) s s
+no_number {e} {s} none = record { has = λ kept. or_none s.has ∙ ap (λ b. s.has || (b || false)) (sym none); noted = λ kept. kept }
+
+or_true : (a : Bool) → true ≡ (a || true)
+or_true true = refl
+or_true false = refl
+
+pub a_number : {e : Event} {old new : NumberSink} → is_number e ≡ true → new.has ≡ true → new.is_refused ≡ old.is_refused → NotesNumbers (e ∷ []) old new
+a_number {e} {old} is has same = record { has = λ kept. has ∙ or_true old.has ∙ ap (λ b. old.has || (b || false)) (sym is); noted = λ kept. sym same ∙ kept }

@@ -20,7 +20,7 @@ pub record NotesNumbers (es : List Event) (old new : NumberSink) : Type 0 where
   pub has : new.is_refused ≡ false → new.has ≡ (old.has || tell_number es)
   pub noted : new.is_refused ≡ false → old.is_refused ≡ false
 
-or_none : (a : Bool) → a ≡ (a || false)
+pub or_none : (a : Bool) → a ≡ (a || false)
 or_none true = refl
 or_none false = refl
 
