@@ -1,5 +1,5 @@
 -- Whether a span is told of the lists of a unit.
-use Rattle.std.proofs.Common.{◌≡◌, ◌||◌, Bool, true, false, List, [], ◌∷◌, ◌++◌, append-nil, refl, sym, ap, ap₂, ◌∙◌}
+use Rattle.std.proofs.Common.{◌≡◌, ◌||◌, Bool, true, false, List, [], ◌∷◌, append-nil, refl, sym, ap, ap₂, ◌∙◌}
 use Rattle.std.specs.Prelude.{Err, IfOk, Ok, OnOk, Result}
 use Rattle.serde_json.specs.Data.{Data, null, boolean, number, string, array, object, Items, no_items, item, Members, no_members, member}
 use Rattle.wesl_tree_names.specs.Path.{Text}
@@ -9,7 +9,7 @@ use Rattle.wesl_tree_syntax.specs.Unit.{UnitView}
 use Rattle.wesl_json_form.specs.Schema.{Name, a_declaration, a_directive, an_import}
 use Rattle.wesl_json_form.specs.Writing.{put_list}
 use Rattle.wesl_json_light.specs.Numbers.{has_number, items_have_number, members_have_number}
-use Rattle.wesl_json_print_nodes.specs.Events.{Event, events, items_events, key, members_events}
+use Rattle.wesl_json_print_nodes.specs.Events.{Event, events, items_events, members_events}
 use Rattle.wesl_json_print_nodes.specs.Printing.{inside}
 use Rattle.wesl_json_print_nodes.specs.declared.printer.Printer.{Printer}
 use Rattle.wesl_json_words.specs.Values.{items_in}

@@ -1,7 +1,7 @@
 -- What a builder of values holds after a step.
 use Rattle.std.proofs.Common.{◌≡◌, List, [], ◌∷◌, ◌++◌, map, false, Option, Some, None, String, Global, Vec, ℕ, string_bytes, refl, sym, ap, ◌∙◌}
 use Rattle.std.specs.Prelude.{option_and_then, option_map}
-use Rattle.serde_json.specs.Data.{Data, array, object, put}
+use Rattle.serde_json.specs.Data.{Data, array, object}
 use Rattle.serde_json.specs.View.{items_of, view}
 use Rattle.serde_json.specs.declared.value.Value.{Value}
 use Rattle.wesl_json_print_nodes.specs.Events.{Event, ends, ends_list, gives, key}

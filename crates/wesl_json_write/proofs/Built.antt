@@ -3,10 +3,10 @@ use Rattle.std.proofs.Common.{◌≡◌, ℕ, List, [], ◌∷◌, ◌++◌, Opt
 use Rattle.std.specs.Prelude.{option_and_then}
 use Rattle.serde_json.specs.Data.{Data, null, boolean, number, string, array, object, Items, no_items, item, Members, no_members, member, put}
 use Rattle.serde_json.specs.View.{items_of}
-use Rattle.wesl_json_print_nodes.specs.Events.{Event, events, items_events, members_events}
+use Rattle.wesl_json_print_nodes.specs.Events.{events, items_events, members_events}
 use Rattle.wesl_json_write.specs.Holds.{run_more}
 use Rattle.wesl_json_light.specs.Order.{sorted, sorted_items, sorted_members}
-use Rattle.wesl_json_write.specs.Building.{Level, State, listing, naming, put_all, take, run, step}
+use Rattle.wesl_json_write.specs.Building.{Level, State, listing, naming, put_all, take, run}
 
 -- the items, as a list
 abbrev listed : Items → List Data

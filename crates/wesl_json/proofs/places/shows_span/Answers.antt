@@ -1,4 +1,4 @@
-use Rattle.std.proofs.Common.{◌≡◌, codes, true, false, rules, sym, ap, ◌∙◌}
+use Rattle.std.proofs.Common.{◌≡◌, codes, true, false, rules, ap, ◌∙◌}
 use Rattle.wesl_tree_syntax.specs.View.{declarations_tree, directives_tree, imports_tree}
 use Rattle.wesl_tree.specs.Translation.{unit_view}
 use Rattle.wesl_json_form.specs.Schema.{a_declaration, a_directive, an_import}
