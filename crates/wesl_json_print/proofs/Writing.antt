@@ -1,5 +1,5 @@
 -- An event that is written.
-use Rattle.std.proofs.Common.{◌≡◌, List, [], ◌∷◌, ◌++◌, false, true≢false, refl, sym, ap, ◌∙◌}
+use Rattle.std.proofs.Common.{◌≡◌, [], ◌∷◌, ◌++◌, false, true≢false, refl, sym, ap, ◌∙◌}
 use Rattle.std.specs.Prelude.{IsOk, Ok, Err, OnOk, Result}
 use Rattle.json.specs.Token.{Token, begin_array, begin_object, key}
 use Rattle.json.specs.Tree.{items_tokens, json_tokens, members_tokens}

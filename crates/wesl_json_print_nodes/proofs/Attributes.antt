@@ -7,7 +7,7 @@ use Rattle.wesl_json_form.specs.Writing.{is_placed}
 use Rattle.wesl_json_print_nodes.specs.Printing.{PrintsEvents, Prints, at_place, custom_tree, diagnosed}
 use Rattle.wesl_json_print_nodes.specs.declared.printer.Printer.{Printer}
 use Rattle.wesl_json_print_nodes.proofs.Adding.{told}
-use Rattle.wesl_json_print_nodes.proofs.Parts.{Part, part, are_apart, arranged, by_parts, events_of, list_part, option_part, option_put, placed_events, puts, puts_before, span_part}
+use Rattle.wesl_json_print_nodes.proofs.Parts.{Part, part, arranged, by_parts, events_of, list_part, option_part, option_put, placed_events, puts, puts_before, span_part}
 use Rattle.wesl_json_words.specs.Values.{attribute_at, attribute_in, expression_data, items_in, place_label, placed_data, with_list, with_member, with_option, with_place, workgroup_size, worded}
 use Rattle.wesl_json_words.proofs.Imports.{as-custom, as-named}
 use Rattle.wesl_json_words.proofs.PlacedShort.{placed-attribute}

@@ -8,7 +8,7 @@ use Rattle.wesl_json_form.specs.Words.{access_words, space_words}
 use Rattle.wesl_json_print_nodes.specs.Printing.{PrintsEvents, Prints, access_member, at_place, inside, space_member}
 use Rattle.wesl_json_print_nodes.specs.declared.printer.Printer.{Printer}
 use Rattle.wesl_json_print_nodes.proofs.Adding.{told}
-use Rattle.wesl_json_print_nodes.proofs.Parts.{Part, part, are_apart, arranged, by_parts, events_of, list_part, object_events, option_part, option_put, placed_events, put_part, puts, puts_before, span_part}
+use Rattle.wesl_json_print_nodes.proofs.Parts.{Part, part, arranged, by_parts, events_of, list_part, object_events, option_part, option_put, put_part, puts, puts_before, span_part}
 use Rattle.wesl_json_print_nodes.proofs.Statements.{at_key, attrs, body, expression_option, word}
 use Rattle.wesl_json_words.specs.Values.{declaration_at, declaration_in, items_in, kind_text, placed_at, statement_at, statement_in, value_in, with_list, with_member, with_option, with_row, with_space, word_value, worded}
 use Rattle.wesl_json_words.proofs.Blocks.{Attributes, children_of}

@@ -10,7 +10,7 @@ use Rattle.wesl_json_form.specs.Writing.{text_or_null, word_of}
 use Rattle.wesl_json_print_nodes.specs.Printing.{PrintsEvents, Prints, at_place, stepped}
 use Rattle.wesl_json_print_nodes.specs.declared.printer.Printer.{Printer}
 use Rattle.wesl_json_print_nodes.proofs.Adding.{told}
-use Rattle.wesl_json_print_nodes.proofs.Parts.{Part, part, are_apart, arranged, by_parts, events_of, list_part, object_events, option_part, option_put, placed_events, put_part, puts, puts_before, span_part}
+use Rattle.wesl_json_print_nodes.proofs.Parts.{Part, part, are_apart, arranged, by_parts, events_of, list_part, object_events, option_part, option_put, put_part, puts, puts_before, span_part}
 use Rattle.wesl_json_words.specs.Values.{assigned, bare, call_members, expression_data, items_in, statement_at, statement_in, value_in, with_attributes, with_clause, with_list, with_member, with_option, worded}
 use Rattle.wesl_json_words.proofs.Blocks.{Attributes, as-block, as-body, as-body-value, as-clause, as-continuing, as-elif, as-else, as-for, as-if, as-if-clause, as-loop, as-switch, as-while, children_of}
 use Rattle.wesl_json_words.proofs.Imports.{as-break-if, as-case, as-default}

@@ -1,5 +1,5 @@
 -- What a sink was told by a printer.
-use Rattle.std.specs.Prelude.{◌≡◌, List, [], ◌∷◌, ◌++◌, Bool, false, None, Option, Some, Vec, codes}
+use Rattle.std.specs.Prelude.{List, [], ◌∷◌, ◌++◌, Bool, None, Option, Some, Vec, codes}
 use Rattle.std.specs.Global.{Box}
 use Rattle.std.specs.declared.alloc.Global.{Global}
 use Rattle.wesl_json_print_nodes.specs.Events.{Event, events, key}
