@@ -135,13 +135,33 @@ fn push_hidden(
     Ok(())
 }
 
+/// Writes why a module is refused: for its conditions, which are told below, or what its line tells.
+fn push_refused(
+    out: &mut String,
+    alloc: Global,
+    fault: &Fault,
+    path: &str,
+) -> Result<(), AllocError> {
+    out.push_str(path)?;
+    out.push_str(" is refused")?;
+    if fault.conditions.is_empty() {
+        out.push_str(": ")?;
+        return out.push_str(fault.line.text.as_str());
+    }
+    let count = fault.conditions.len().to_string(alloc)?;
+    out.push_str(", faults of its conditions: ")?;
+    out.push_str(count.as_str())
+}
+
 /// Writes why no module is at a path.
 fn push_absent(
     out: &mut String,
+    alloc: Global,
     told: &Explanation,
-    line: &FaultLine,
+    fault: &Fault,
     at: PathId,
 ) -> Result<(), AllocError> {
+    let line = &fault.line;
     let path = told.path(at);
     match fault_name(line) {
         "ModuleNotFound" => {
@@ -162,11 +182,7 @@ fn push_absent(
             out.push_str(path)?;
             out.push_str(" has a name with several targets, and more than 16 flags")?;
         }
-        _ => {
-            out.push_str(path)?;
-            out.push_str(" is refused: ")?;
-            out.push_str(line.text.as_str())?;
-        }
+        _ => push_refused(out, alloc, fault, path)?,
     }
     Ok(())
 }
@@ -174,13 +190,14 @@ fn push_absent(
 /// Writes what is wrong.
 fn push_wrong(
     out: &mut String,
+    alloc: Global,
     told: &Explanation,
     fault: &Fault,
     link: &LinkFault,
 ) -> Result<(), AllocError> {
     let at = told.path(link.wrong.at);
     match link.wrong.flaw {
-        Flaw::NoModule => push_absent(out, told, &fault.line, link.wrong.at),
+        Flaw::NoModule => push_absent(out, alloc, told, fault, link.wrong.at),
         Flaw::Lacking(name) => push_missing(out, told, link, name),
         Flaw::Hidden(name) => push_hidden(out, told, link, name),
         Flaw::Clash(name) => {
@@ -255,7 +272,7 @@ pub fn push_head(
     fault: &Fault,
     link: &LinkFault,
 ) -> Result<(), AllocError> {
-    push_wrong(out, told, fault, link)?;
+    push_wrong(out, alloc, told, fault, link)?;
     push_near(out, told, fault, link)?;
     out.push_str("\n")?;
     push_targets(out, told, &link.targets)?;

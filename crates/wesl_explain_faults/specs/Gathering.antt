@@ -1,13 +1,14 @@
 -- Faults with all that ask for each.
-use Rattle.std.specs.Prelude.{◌≡◌, ◌↔◌, ℕ, length, slice_get, Option, Some, List, Contains, map}
+use Rattle.std.specs.Prelude.{◌≡◌, ◌↔◌, length, List, Contains, map}
 use Rattle.wesl_link_symbols.specs.declared.ids.PathId.{PathId}
 use Rattle.wesl_tree_base.specs.declared.ids.NameId.{NameId}
-use Rattle.wesl_link_symbols.specs.Index.{HasAt, IsKeyed, IsLast}
+use Rattle.wesl_link_symbols.specs.Index.{Chains}
 use Rattle.wesl_link_reach.specs.Faults.{AreDistinct}
 use Rattle.wesl_link_faults.specs.declared.asker.Asker.{Asker}
 use Rattle.wesl_link_faults.specs.declared.open.Finding.{Finding}
 use Rattle.wesl_link_faults.specs.Opening.{flaw_of}
 use Rattle.wesl_explain_faults.specs.declared.faults.FaultAt.{FaultAt}
+use Rattle.wesl_explain_faults.specs.declared.faults.Ties.{Ties}
 use Rattle.wesl_explain_faults.specs.declared.faults.Wrong.{Wrong}
 
 -- what is wrong in a finding, and where
@@ -43,7 +44,6 @@ pub record AreGathered (told : List Finding) (gs : List FaultAt) : Type 0 where
 
 -- ---- on the way
 
--- of each finding the one of its fault before it
-pub record AreTied (told : List Finding) (earlier : List (Option ℕ)) : Type 0 where
-  pub tied : (w : Wrong) (i : ℕ) (o : Option ℕ) → slice_get earlier i ≡ Some o → HasAt (IsKeyed wrong_in w) told i → IsLast (IsKeyed wrong_in w) told i o
-  pub len : length earlier ≡ length told
+-- of each fault its last finding is known, and of each finding the one of its fault before it
+abbrev pub AreTies : Ties → Type 0
+AreTies t = Chains wrong_in t.told.now (length t.told.now) t.latest.entries t.earlier.items

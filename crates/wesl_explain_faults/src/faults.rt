@@ -1,9 +1,9 @@
 //! Faults with all that ask for each.
 ghost use Rattle.std.specs.Prelude.{◌≡◌, ⊤, [], length, map, IfOk, OnOk};
 ghost use Rattle.std.proofs.Common.{rules};
-ghost use Rattle.wesl_link_symbols.specs.Index.{Chains, IsKeyed, IsLast};
+ghost use Rattle.wesl_link_symbols.specs.Index.{Chains, HasAt, IsKeyed, IsLast};
 ghost use Rattle.wesl_link_faults.specs.Opening.{flaw_of};
-ghost use Rattle.wesl_explain_faults.specs.Gathering.{AreAskers, AreGathered, AreTied, AreWrongs, HaveAskers, wrong_at, wrong_in};
+ghost use Rattle.wesl_explain_faults.specs.Gathering.{AreAskers, AreGathered, AreTies, AreWrongs, HaveAskers, wrong_at, wrong_in};
 
 use std::alloc::{AllocError, Global};
 use std::collections::HashMap;
@@ -46,9 +46,10 @@ pub struct FaultAt {
     pub askers: Vec<Asker<PathId, NameId>>,
 }
 
-/// Of each fault the last finding that tells it, and of each finding the one of its fault before it.
+/// Findings, of each fault the last of them that tells it, and of each finding the one of its fault before it.
 #[derive(Drop)]
-struct Ties {
+struct Ties<'t> {
+    told: &'t [Finding],
     latest: HashMap<Wrong, usize>,
     earlier: Vec<Option<usize>>,
 }
@@ -114,89 +115,79 @@ fn wrongs_in(alloc: Global, told: &[Finding]) -> Result<Vec<Wrong>, AllocError>
     Ok(keys::into_list(wrongs))
 }
 
+impl Ties<'_> {
+    /// The index of the last finding of a fault.
+    fn latest_of(&self, wrong: Wrong) -> Option<usize>
+        requires { AreTies self.now }
+        ensures { IsLast (IsKeyed wrong_in wrong) self.now.told.now (length self.now.told.now) result }
+    {
+        keyed::value_at(&self.latest, wrong)
+    }
+
+    /// The index of the finding before that is of the fault of this one.
+    fn earlier_of(&self, index: usize, wrong: Wrong) -> Option<usize>
+        requires ties { AreTies self.now }
+        requires has { HasAt (IsKeyed wrong_in wrong) self.now.told.now index }
+        ensures { IsLast (IsKeyed wrong_in wrong) self.now.told.now index result }
+    {
+        self.earlier[index]
+    }
+
+    /// The number of the absence that is told of a fault.
+    fn absence_of(&self, wrong: Wrong) -> Option<usize> {
+        match keyed::value_at(&self.latest, wrong) {
+            Some(index) => match self.told.get(index) {
+                Some(finding) => absence_of(&finding.fault),
+                None => None,
+            },
+            None => None,
+        }
+    }
+}
+
 /// Adds all that ask for a fault, the last first.
 fn add_askers(
-    told: &[Finding],
-    earlier: &[Option<usize>],
-    latest: Option<usize>,
+    ties: &Ties<'_>,
     wrong: Wrong,
     askers: &mut Vec<Asker<PathId, NameId>>,
 ) -> Result<(), AllocError>
-    requires tied { AreTied told.now earlier.now }
-    requires latest { IsLast (IsKeyed wrong_in wrong) told.now (length told.now) latest }
+    requires ties { AreTies ties.now }
     requires empty { askers.old.items ≡ [] }
-    ensures { OnOk result (AreAskers told.now wrong askers.new.items) }
+    ensures { OnOk result (AreAskers ties.now.told.now wrong askers.new.items) }
 {
-    let mut at = latest;
+    let mut at = ties.latest_of(wrong);
     'findings: while let Some(index) = at {
-        askers.push(told[index].asker)?;
-        at = earlier[index];
+        askers.push(ties.told[index].asker)?;
+        at = ties.earlier_of(index, wrong);
     }
     Ok(())
 }
 
-/// All that ask for a fault.
-fn askers_of(
-    alloc: Global,
-    told: &[Finding],
-    ties: &Ties,
-    wrong: Wrong,
-) -> Result<Vec<Asker<PathId, NameId>>, AllocError>
-    requires { Chains wrong_in told.now (length told.now) ties.now.latest.entries ties.now.earlier.items }
-    ensures { IfOk result (λ askers. AreAskers told.now wrong askers.items) }
+/// A fault with all that ask for it, in the order in which they were found.
+fn fault_at(alloc: Global, ties: &Ties<'_>, wrong: Wrong) -> Result<FaultAt, AllocError>
+    requires { AreTies ties.now }
+    ensures wrong { IfOk result (λ g. g.wrong ≡ wrong) }
+    ensures askers { IfOk result (λ g. AreAskers ties.now.told.now g.wrong g.askers.items) }
 {
     let mut askers = Vec::new(alloc);
-    let latest = keyed::value_at(&ties.latest, wrong);
-    add_askers(told, &ties.earlier, latest, wrong, &mut askers)?;
+    add_askers(ties, wrong, &mut askers)?;
     askers.reverse();
-    Ok(askers)
-}
-
-/// The number of the absence that is told of a fault.
-fn absence_at(told: &[Finding], ties: &Ties, wrong: Wrong) -> Option<usize> {
-    match keyed::value_at(&ties.latest, wrong) {
-        Some(index) => match told.get(index) {
-            Some(finding) => absence_of(&finding.fault),
-            None => None,
-        },
-        None => None,
-    }
-}
-
-/// A fault with all that ask for it.
-fn fault_at(
-    alloc: Global,
-    told: &[Finding],
-    ties: &Ties,
-    wrong: Wrong,
-) -> Result<FaultAt, AllocError>
-    requires { Chains wrong_in told.now (length told.now) ties.now.latest.entries ties.now.earlier.items }
-    ensures wrong { IfOk result (λ g. g.wrong ≡ wrong) }
-    ensures askers { IfOk result (λ g. AreAskers told.now g.wrong g.askers.items) }
-{
-    let absence = absence_at(told, ties, wrong);
-    let askers = askers_of(alloc, told, ties, wrong)?;
     Ok(FaultAt {
         wrong,
-        absence,
+        absence: ties.absence_of(wrong),
         askers,
     })
 }
 
 /// These faults, each with all that ask for it.
-fn gather(
-    alloc: Global,
-    told: &[Finding],
-    ties: &Ties,
-    wrongs: &[Wrong],
-) -> Result<Vec<FaultAt>, AllocError>
-    requires { Chains wrong_in told.now (length told.now) ties.now.latest.entries ties.now.earlier.items }
+fn gather(alloc: Global, ties: &Ties<'_>, wrongs: &[Wrong]) -> Result<Vec<FaultAt>, AllocError>
+    requires { AreTies ties.now }
     ensures same { IfOk result (λ gs. map wrong_at gs.items ≡ wrongs.now) }
-    ensures askers { IfOk result (λ gs. HaveAskers told.now gs.items) }
+    ensures askers { IfOk result (λ gs. HaveAskers ties.now.told.now gs.items) }
 {
     let mut faults = Vec::new(alloc);
     for wrong in wrongs {
-        faults.push(fault_at(alloc, told, ties, *wrong)?)?;
+        faults.push(fault_at(alloc, ties, *wrong)?)?;
     }
     Ok(faults)
 }
@@ -207,10 +198,11 @@ pub fn faults_at(alloc: Global, told: &[Finding]) -> Result<Vec<FaultAt>, AllocE
     ensures { IfOk result (λ gs. AreGathered told.now gs.items) }
 {
     let mut ties = Ties {
+        told,
         latest: HashMap::new(alloc),
         earlier: Vec::new(alloc),
     };
     tie(&mut ties.latest, &mut ties.earlier, told)?;
     let wrongs = wrongs_in(alloc, told)?;
-    gather(alloc, told, &ties, &wrongs)
+    gather(alloc, &ties, &wrongs)
 }

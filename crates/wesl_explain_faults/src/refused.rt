@@ -120,18 +120,21 @@ fn ring_of(
     }
 }
 
-/// The name of a module that is nearest to one that it lacks.
+/// The name of a module that is nearest to one that it lacks: none where the module imports the name in a ring.
 fn near_of(
     alloc: Global,
     given: &Given<'_>,
     texts: &Texts,
     near: &mut NearNames,
     wrong: Wrong,
+    is_ring: bool,
 ) -> Result<Option<Symbol<PathId, NameId>>, AllocError>
     requires ready { IsReady given.now }
 {
     match wrong.flaw {
-        Flaw::Lacking(name) => near_missing(alloc, given, texts, near, wrong.at, name),
+        Flaw::Lacking(name) if !is_ring => {
+            near_missing(alloc, given, texts, near, wrong.at, name)
+        }
         _ => Ok(None),
     }
 }
@@ -178,7 +181,7 @@ fn told_of(
     let uses = uses_of(alloc, given, read, held, &fault.askers)?;
     let way = first_way(alloc, given, &fault.askers)?;
     let ring = ring_of(alloc, &way)?;
-    let near = near_of(alloc, given, texts, near, fault.wrong)?;
+    let near = near_of(alloc, given, texts, near, fault.wrong, !ring.is_empty())?;
     let targets = targets_at(alloc, given, read, fault.wrong)?;
     let cures = cures_of(alloc, fault.wrong.flaw)?;
     Ok(LinkFault {

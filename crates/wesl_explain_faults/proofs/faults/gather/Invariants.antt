@@ -5,5 +5,5 @@ use Rattle.wesl_explain_faults.proofs.faults.gather.Given as goal
 abbrev pub invariant-loop-wrong : goal.invariant-loop-wrong
 invariant-loop-wrong l = record {
   same : map wrong_at l.faults.items ≡ take l.wrong-index l.wrongs;
-  askers : HaveAskers l.told l.faults.items;
+  askers : HaveAskers l.ties.told.now l.faults.items;
 }
