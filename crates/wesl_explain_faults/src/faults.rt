@@ -197,12 +197,14 @@ fn gather(alloc: Global, ties: &Ties<'_>, wrongs: &[Wrong]) -> Result<Vec<FaultA
 pub fn faults_at(alloc: Global, told: &[Finding]) -> Result<Vec<FaultAt>, AllocError>
     ensures { IfOk result (λ gs. AreGathered told.now gs.items) }
 {
-    let mut ties = Ties {
+    let mut latest = HashMap::new(alloc);
+    let mut earlier = Vec::new(alloc);
+    tie(&mut latest, &mut earlier, told)?;
+    let ties = Ties {
         told,
-        latest: HashMap::new(alloc),
-        earlier: Vec::new(alloc),
+        latest,
+        earlier,
     };
-    tie(&mut ties.latest, &mut ties.earlier, told)?;
     let wrongs = wrongs_in(alloc, told)?;
     gather(alloc, &ties, &wrongs)
 }
