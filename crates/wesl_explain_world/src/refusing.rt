@@ -369,7 +369,7 @@ struct Loaded<'t> {
 }
 
 /// What a loader has loaded.
-fn loaded(alloc: Global, loader: TableLoader<'_>) -> Result<Loaded<'_>, AllocError> {
+fn loaded_of(alloc: Global, loader: TableLoader<'_>) -> Result<Loaded<'_>, AllocError> {
     let TableLoader {
         sources,
         numbers,
@@ -475,7 +475,7 @@ pub fn explain_refusal(
     let mut loader = TableLoader::new(alloc, sources, true);
     let root = loader.numbers.path(alloc, request.root)?;
     let found = opened_link(alloc, request, &mut loader)?;
-    let loaded = loaded(alloc, loader)?;
+    let loaded = loaded_of(alloc, loader)?;
     match found {
         Some((found, kept)) => explain_found(
             alloc, request, diagnostic, loaded, listed, root, found, &kept,
