@@ -120,14 +120,13 @@ fn node_at(
     }
 }
 
-// Whether what stands at a place of a module may declare an item.
+// Whether a module declares an item at a place.
 fn stands_there(module: &ReadModule, item: &str, span: Span) -> bool {
-    match module
-        .text
-        .as_str()
-        .get(span.start as usize..span.end as usize)
-    {
-        Some(text) => text.contains(item),
+    let before = module
+        .declared
+        .partition_point(|one| one.0.start < span.start);
+    match module.declared.get(before) {
+        Some((place, name)) => *place == span && name.as_str() == item,
         None => false,
     }
 }

@@ -13,7 +13,7 @@ use wesl_resolve_base::Resolver;
 use wesl_scope::{SyntaxUtil, names_clash};
 use wesl_text::{PrintFault, print_unit};
 use wesl_text_project::{ProjectFault, or_memory};
-use wesl_tree::{Diagnostic, ModulePath, TranslationUnit};
+use wesl_tree::{Diagnostic, ModulePath, ResolveError, TranslationUnit};
 use wesl_validate_builtins::Builtins;
 
 // How many modules may be loaded, as for a bundle that tells no other number.
@@ -66,7 +66,7 @@ pub fn linked_text<R: Files + AllocGlobal>(
     }
     let unit = match modules.resolve_module(alloc, wish.root) {
         Ok(unit) => unit,
-        Err(refusal) => return Err(modules.told_of_refusal(alloc, refusal)),
+        Err(refusal) => return Err(root_fault(alloc, modules, wish, refusal)),
     };
     let keep = kept_names(alloc, &unit, wish)?;
     let found = match resolutions(alloc, modules, wish, unit, &keep) {
@@ -74,6 +74,28 @@ pub fn linked_text<R: Files + AllocGlobal>(
         Err(diagnostic) => return Err(modules.told(alloc, &diagnostic)),
     };
     assembled_text(alloc, modules, wish, found)
+}
+
+// The fault of a root that cannot be had.
+fn root_fault<R>(
+    alloc: Global,
+    modules: &ProjectModules<'_, R>,
+    wish: &LinkWish<'_>,
+    refusal: ResolveError,
+) -> ProjectFault {
+    let is_missing = match &refusal {
+        ResolveError::ModuleNotFound(_, _) => wish.keep.is_none(),
+        _ => false,
+    };
+    if !is_missing {
+        return modules.told_of_refusal(alloc, refusal);
+    }
+    drop(refusal);
+    let root = wish.root;
+    match format!(in alloc; "no module has the path `{root}` of the root") {
+        Ok(text) => ProjectFault::Project(text),
+        Err(_) => ProjectFault::Memory,
+    }
 }
 
 // The names of the root that are kept.

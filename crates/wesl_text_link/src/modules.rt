@@ -1,4 +1,5 @@
 //! The modules of a project, read when they are asked for.
+use crate::asking::{declared, name_of};
 use indexmap::IndexMap;
 use std::alloc::{AllocError, Global};
 use std::fs;
@@ -22,6 +23,8 @@ pub struct ReadModule {
     pub is_text: bool,
     /// Where its lines begin.
     pub lines: LineStarts,
+    /// The names that it declares, with the places of their declarations, in the order of the text.
+    pub declared: Vec<(Span, String)>,
 }
 
 /// The modules of a project, as its features leave them. Each is read when it is asked for, and what was read is kept, so that faults
@@ -107,6 +110,7 @@ impl<'r, R: Files + AllocGlobal> ProjectModules<'r, R> {
             text,
             is_text,
             lines,
+            declared: Vec::new(alloc),
         };
         self.read.insert(path, module)?;
         Ok(())
@@ -118,6 +122,20 @@ impl<'r, R: Files + AllocGlobal> ProjectModules<'r, R> {
             Some(module) => unit_of_module(alloc, path, module),
             None => Err(ResolveError::Memory),
         }
+    }
+
+    // Notes what a unit declares, and its flags among those that are asked for.
+    fn note_unit(
+        &mut self,
+        alloc: Global,
+        path: &ModulePath,
+        unit: &TranslationUnit,
+    ) -> Result<(), AllocError> {
+        let declared = declared_in(alloc, unit)?;
+        if let Some(module) = self.read.get_mut(path) {
+            module.declared = declared;
+        }
+        self.note_flags(alloc, unit)
     }
 
     // Notes the flags of a unit among those that are asked for.
@@ -145,7 +163,7 @@ impl<'r, R: Files + AllocGlobal> ProjectModules<'r, R> {
         };
         self.read_file(at, file)?;
         let unit = self.unit_read(alloc, path)?;
-        if self.note_flags(alloc, &unit).is_err() {
+        if self.note_unit(alloc, path, &unit).is_err() {
             return Err(ResolveError::Memory);
         }
         match condition(alloc, unit, self.features) {
@@ -153,6 +171,18 @@ impl<'r, R: Files + AllocGlobal> ProjectModules<'r, R> {
             Err(fault) => Err(refused(alloc, fault, path, None, None)),
         }
     }
+}
+
+// The names that a unit declares, with the places of their declarations.
+fn declared_in(alloc: Global, unit: &TranslationUnit) -> Result<Vec<(Span, String)>, AllocError> {
+    let mut names = Vec::new(alloc);
+    for node in unit.global_declarations() {
+        if let Some(ident) = declared(&node.node) {
+            let name = String::from_str(alloc, name_of(unit.names(), ident))?;
+            names.push((node.span, name))?;
+        }
+    }
+    Ok(names)
 }
 
 // A copy of a path, none for want of memory.

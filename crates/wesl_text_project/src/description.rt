@@ -153,8 +153,12 @@ fn manifest_of<R: Files + AllocGlobal>(
     Ok(made)
 }
 
-// Refuses what a manifest may say and is not there yet.
-fn refuse_unknown(alloc: Global, file: &str, told: Described<'_>) -> Result<(), ProjectFault> {
+/// Refuses what a manifest may say and is not there yet.
+pub(crate) fn refuse_unknown(
+    alloc: Global,
+    file: &str,
+    told: Described<'_>,
+) -> Result<(), ProjectFault> {
     let Some(package) = told.get("package") else {
         return Ok(());
     };

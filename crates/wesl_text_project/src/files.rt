@@ -150,11 +150,29 @@ fn own_module<R: Files>(
     components: &[String],
 ) -> Result<ModuleFile, AllocError> {
     match module_at(rt, alloc, layout.folder.as_str(), components)? {
-        Some(ModuleFile::File(file)) if !layout.is_left_out(file.as_str()) => {
-            Ok(ModuleFile::File(file))
-        }
-        _ => Ok(ModuleFile::Missing(String::from_str(alloc, "virtual module")?)),
+        Some(found) => owned(alloc, layout, found),
+        None => no_own(alloc),
     }
+}
+
+// What was found in the project's folder, unless it lies in that of a package.
+fn owned(alloc: Global, layout: &Layout, found: ModuleFile) -> Result<ModuleFile, AllocError> {
+    match found {
+        ModuleFile::File(file) => {
+            if layout.is_left_out(file.as_str()) {
+                no_own(alloc)
+            } else {
+                Ok(ModuleFile::File(file))
+            }
+        }
+        ModuleFile::Folder => no_own(alloc),
+        ModuleFile::Missing(reason) => Ok(ModuleFile::Missing(reason)),
+    }
+}
+
+// None of the project's own modules.
+fn no_own(alloc: Global) -> Result<ModuleFile, AllocError> {
+    Ok(ModuleFile::Missing(String::from_str(alloc, "virtual module")?))
 }
 
 /// What a module's path stands for: `package::a::b` for `a/b.wesl` or else `a/b.wgsl` in the folder of the project's modules, and

@@ -1,6 +1,6 @@
 //! The packages that a project uses, and what they use.
 use crate::described::Described;
-use crate::description::{Description, module_folder, table_of, text_at, wrong};
+use crate::description::{Description, module_folder, refuse_unknown, table_of, text_at, wrong};
 use crate::fault::ProjectFault;
 use crate::layout::{Layout, PackageFolder};
 use crate::paths::below;
@@ -184,6 +184,7 @@ fn used_by<R: Files + AllocGlobal>(
     }
     let value = table_of(rt, file.as_str())?;
     let told = Described::Toml(&value);
+    refuse_unknown(alloc, file.as_str(), told)?;
     add_dependencies(
         alloc,
         file.as_str(),
