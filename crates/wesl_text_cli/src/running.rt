@@ -103,12 +103,12 @@ fn keep_of<'k>(
 }
 
 // Links the modules of a layout.
-fn linked<R: Files + AllocGlobal>(
-    rt: &R,
-    matches: &ArgMatches<'_>,
-    description: &Description,
-    layout: &Layout,
-    root: &ModulePath,
+fn linked<'m, R: Files + AllocGlobal>(
+    rt: &'m R,
+    matches: &'m ArgMatches<'_>,
+    description: &'m Description,
+    layout: &'m Layout,
+    root: &'m ModulePath,
     is_file: bool,
 ) -> Result<Outcome, Stop> {
     let alloc = rt.alloc();

@@ -29,14 +29,14 @@ impl<'r, R> ProjectModules<'r, R> {
     }
 
     // Adds the places where what is printed under a name is declared.
-    fn add_declarations(
-        &self,
+    fn add_declarations<'m>(
+        &'m self,
         alloc: Global,
         lines: &mut String,
-        map: &BasicSourceMap,
-        root: &ModulePath,
+        map: &'m BasicSourceMap,
+        root: &'m ModulePath,
         unit: &TranslationUnit,
-        name: &str,
+        name: &'m str,
     ) -> Result<(), AllocError> {
         let text = format!(in alloc;
             "`{name}` is what this is printed as, and is read as something else too"

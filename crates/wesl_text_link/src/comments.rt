@@ -53,12 +53,12 @@ impl<'r, R> ProjectModules<'r, R> {
     }
 
     // The comment of a declaration, empty where it declares nothing.
-    fn comment(
-        &self,
+    fn comment<'m>(
+        &'m self,
         alloc: Global,
-        map: &BasicSourceMap,
-        root: &ModulePath,
-        unit: &TranslationUnit,
+        map: &'m BasicSourceMap,
+        root: &'m ModulePath,
+        unit: &'m TranslationUnit,
         node: &GlobalDeclarationNode,
     ) -> Result<String, AllocError> {
         let Some(ident) = declared(&node.node) else {
