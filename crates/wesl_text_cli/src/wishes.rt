@@ -28,10 +28,7 @@ impl From<AllocError> for Stop {
 
 /// The values of an option that may be given again.
 pub fn values_of<'m, 'a>(matches: &'m ArgMatches<'a>, name: &str) -> &'m [&'a str] {
-    match matches.get_strs(name) {
-        Some(values) => values,
-        None => &[],
-    }
+    matches.get_strs(name).unwrap_or(&[])
 }
 
 /// The answers to flags that are given.
