@@ -3,7 +3,8 @@
 //!
 //! Each module is read when the link asks for it. What is handed out is what `wesl_text` reads of the file's bytes, as the features
 //! leave it; that the bytes are those of a file at the module's path no clause knows, so that the resolver's ghost members promise
-//! nothing. What is linked and printed of the modules that were handed out is as `wesl_link` and `wesl_text` promise.
+//! nothing. This crate is not proved whole yet: what is linked and printed of the modules that were handed out is as `wesl_link` and
+//! `wesl_text` promise once it is.
 #![tactic(auto)]
 
 mod asking;
