@@ -3,7 +3,6 @@ pub mod Kept
 pub mod Listed
 pub mod Operands
 pub mod Parts
-pub mod Respelled
 pub mod Untouched
 pub mod Whole
 pub mod Texts
