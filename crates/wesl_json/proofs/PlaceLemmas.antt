@@ -1,45 +1,44 @@
--- Whether a span is written in the lists of a unit, item by item.
-use Rattle.std.proofs.Common.{◌≡◌, ℕ, Bool, true, false, ◌||◌, ◌+◌, ◌<◌, ◌≤◌, List, ◌∷◌, length, drop, get_or, map, refl, sym, ap, ◌∙◌}
-use Rattle.std.proofs.lemmas.List.{drop_all, drop_more}
+-- Whether a span is told of the lists of a unit.
+use Rattle.std.proofs.Common.{◌≡◌, ◌||◌, Bool, true, false, List, [], ◌∷◌, append-nil, refl, sym, ap, ap₂, ◌∙◌}
+use Rattle.std.specs.Prelude.{Err, IfOk, Ok, OnOk, Result}
+use Rattle.serde_json.specs.Data.{Data, null, boolean, number, string, array, object, Items, no_items, item, Members, no_members, member}
 use Rattle.wesl_tree_names.specs.Path.{Text}
-use Rattle.wesl_tree_syntax.specs.Tree.{Tree, forest_of}
+use Rattle.wesl_tree_syntax.specs.Tree.{Tree}
 use Rattle.wesl_tree_syntax.specs.Shown.{placed}
 use Rattle.wesl_tree_syntax.specs.Unit.{UnitView}
-use Rattle.wesl_json_form.specs.Schema.{Name, node, a_declaration, a_directive, an_import}
-use Rattle.wesl_json_light.specs.Numbers.{has_number, items_have_number}
-use Rattle.wesl_json_write.specs.Values.{items_in, value_in}
+use Rattle.wesl_json_form.specs.Schema.{Name, a_declaration, a_directive, an_import}
+use Rattle.wesl_json_form.specs.Writing.{put_list}
+use Rattle.wesl_json_light.specs.Numbers.{has_number, items_have_number, members_have_number}
+use Rattle.wesl_json_print_nodes.specs.Events.{Event, events, items_events, members_events}
+use Rattle.wesl_json_print_nodes.specs.Printing.{inside}
+use Rattle.wesl_json_print_nodes.specs.declared.printer.Printer.{Printer}
+use Rattle.wesl_json_words.specs.Values.{items_in}
+use Rattle.wesl_json.specs.Numbers.{NotesNumbers, is_number, or_none, tell_more, tell_number}
 use Rattle.wesl_json.specs.UnitTexts.{shows_span}
+use Rattle.wesl_json.specs.declared.places.NumberSink.{NumberSink}
 
--- ---- the loop over declarations
+-- ---- the numbers that are told of a value are its own
 
-module _ (names : List Text) (m : Name) {A : Type 0} (f : A → Tree) where
-  -- a number stands in what the nodes from the i-th on are written as
-  abbrev pub has_from : ℕ → List A → Bool
-  has_from i xs = items_have_number (items_in true names m (forest_of (map f (drop i xs))))
+mutual
+  told : (d : Data) → tell_number (events d) ≡ has_number d
+  told null = refl
+  told (boolean b) = refl
+  told (number n) = refl
+  told (string s) = refl
+  told (array ds) = items_told ds
+  told (object ms) = members_told ms
 
-  first-item : (x : A) (xs : List A) → items_have_number (items_in true names m (forest_of (map f (x ∷ xs)))) ≡ (has_number (value_in true names (node m) (f x)) || items_have_number (items_in true names m (forest_of (map f xs))))
-  unfolding items_in value_in
-  first-item x xs = refl
+  items_told : (ds : Items) → tell_number (items_events ds) ≡ items_have_number ds
+  items_told no_items = refl
+  items_told (item d ds) = tell_more (events d) (items_events ds) ∙ ap₂ (λ a b. a || b) (told d) (items_told ds)
 
-  has-more : (xs : List A) (i : ℕ) (x : A) → i < length xs → x ≡ get_or xs i x → has_from i xs ≡ (has_number (value_in true names (node m) (f x)) || has_from (i + 1) xs)
-  has-more xs i x within here =
-      ap (λ ys. items_have_number (items_in true names m (forest_of (map f ys)))) (drop_more xs i x within ∙ ap (λ y. y ∷ drop (i + 1) xs) (sym here))
-      ∙ first-item x (drop (i + 1) xs)
+  members_told : (ms : Members) → tell_number (members_events ms) ≡ members_have_number ms
+  members_told no_members = refl
+  members_told (member k d ms) = tell_more (events d) (members_events ms) ∙ ap₂ (λ a b. a || b) (told d) (members_told ms)
 
-  -- one that has a number
-  pub has-here : (xs : List A) (i : ℕ) (x : A) (all has : Bool) → i < length xs → x ≡ get_or xs i x → all ≡ has_from i xs → has ≡ has_number (value_in true names (node m) (f x)) → has ≡ true → true ≡ all
-  has-here xs i x all has within here so_far this is =
-      sym (so_far ∙ has-more xs i x within here ∙ ap (λ b. b || has_from (i + 1) xs) (sym this ∙ is))
-
-  -- one that has none
-  pub has-later : (xs : List A) (i : ℕ) (x : A) (all has : Bool) → i < length xs → x ≡ get_or xs i x → all ≡ has_from i xs → has ≡ has_number (value_in true names (node m) (f x)) → has ≡ false → all ≡ has_from (i + 1) xs
-  has-later xs i x all has within here so_far this is =
-      so_far ∙ has-more xs i x within here ∙ ap (λ b. b || has_from (i + 1) xs) (sym this ∙ is)
-
-  -- after the last turn
-  pub has-none : (xs : List A) (i : ℕ) (all : Bool) → length xs ≤ i → all ≡ has_from i xs → false ≡ all
-  unfolding items_in
-  has-none xs i all past so_far = sym (so_far ∙ ap (λ ys. items_have_number (items_in true names m (forest_of (map f ys)))) (drop_all i xs past))
+list_told : (k : Text) (ds : Items) → tell_number (inside (put_list k (array ds) no_members)) ≡ items_have_number ds
+list_told k no_items = refl
+list_told k (item d ds) = ap tell_number (append-nil (events (array (item d ds)))) ∙ items_told (item d ds)
 
 -- ---- the lists of a unit
 
@@ -47,35 +46,37 @@ lists-show : (u : UnitView) → shows_span (placed u) ≡ (items_have_number (it
 unfolding items_in
 lists-show u = refl
 
-first : (a b c : Bool) → a ≡ true → (a || b || c) ≡ true
-first a b c is = rw is refl
-
-second : (a b c : Bool) → a ≡ false → b ≡ true → (a || b || c) ≡ true
-second a b c isnt is = rw (isnt, is) refl
-
-third : (a b c : Bool) → a ≡ false → b ≡ false → (a || b || c) ≡ c
-third a b c isnt nor = rw (isnt, nor) refl
-
 -- the same list, by the names and the tree of a unit
-pub same-list : (m : Name) (names others : List Text) (t s : Tree) → others ≡ names → s ≡ t → items_have_number (items_in true names m t.children) ≡ items_have_number (items_in true others m s.children)
+pub same-list : (m : Name) (names others : List Text) (t s : Tree) → others ≡ names → s ≡ t → items_in true names m t.children ≡ items_in true others m s.children
 same-list m names others t s same one =
-    ap (λ ns. items_have_number (items_in true ns m t.children)) (sym same) ∙ ap (λ (r : Tree). items_have_number (items_in true others m r.children)) (sym one)
+    ap (λ ns. items_in true ns m t.children) (sym same) ∙ ap (λ (r : Tree). items_in true others m r.children) (sym one)
 
-module _ (u : UnitView) where
-  abbrev pub imports_have : Bool
-  imports_have = items_have_number (items_in true u.names an_import u.imports.children)
+-- a list of which a sink is told
+one-list : {a b : NumberSink} (k : Text) (ds es : Items) (before : Bool) → ds ≡ es → a.has ≡ before → NotesNumbers (inside (put_list k (array ds) no_members)) a b → b.is_refused ≡ false → b.has ≡ (before || items_have_number es)
+one-list {a} k ds es before same so_far h kept = h.has kept ∙ ap₂ (λ x y. x || y) so_far (list_told k ds ∙ ap items_have_number same)
 
-  abbrev pub directives_have : Bool
-  directives_have = items_have_number (items_in true u.names a_directive u.directives.children)
+pub spans-told : {a b c d : NumberSink} (j k l : Text) (u : UnitView) (is ds gs : Items)
+    → is ≡ items_in true u.names an_import u.imports.children → ds ≡ items_in true u.names a_directive u.directives.children → gs ≡ items_in true u.names a_declaration u.declarations.children
+    → a.has ≡ false → NotesNumbers (inside (put_list j (array is) no_members)) a b → NotesNumbers (inside (put_list k (array ds) no_members)) b c → NotesNumbers (inside (put_list l (array gs) no_members)) c d
+    → d.is_refused ≡ false → d.has ≡ shows_span (placed u)
+spans-told j k l u is ds gs first second third begun h i m kept =
+    let imported = one-list j is _ false first begun h (i.noted (m.noted kept)) in
+    let directed = one-list k ds _ _ second imported i (m.noted kept) in
+    one-list l gs _ _ third directed m kept ∙ sym (lists-show u)
 
-  abbrev pub declarations_have : Bool
-  declarations_have = items_have_number (items_in true u.names a_declaration u.declarations.children)
+-- what the end of such a sink tells
+pub shown : {E : Type 0} {new : Printer NumberSink} (u : UnitView) (r : Result Bool E) (s : NumberSink) → s ≡ new.sink → IfOk r (λ has. has ≡ s.has) → OnOk r (s.is_refused ≡ false) → (new.sink.is_refused ≡ false → new.sink.has ≡ shows_span (placed u)) → IfOk r (λ shows. shows ≡ shows_span (placed u))
+shown u (Ok has) s same given noted told_of = given ∙ ap (λ t. t.has) same ∙ told_of (ap (λ t. t.is_refused) (sym same) ∙ noted)
+shown u (Err e) s same given noted told_of = tt
 
-  pub imports-show : imports_have ≡ true → true ≡ shows_span (placed u)
-  imports-show is = sym (lists-show u ∙ first imports_have directives_have declarations_have is)
+-- ---- one event
 
-  pub directives-show : imports_have ≡ false → directives_have ≡ true → true ≡ shows_span (placed u)
-  directives-show isnt is = sym (lists-show u ∙ second imports_have directives_have declarations_have isnt is)
+pub no_number : {e : Event} {s : NumberSink} → is_number e ≡ false → NotesNumbers (e ∷ []) s s
+no_number {e} {s} none = record { has = λ kept. or_none s.has ∙ ap (λ b. s.has || (b || false)) (sym none); noted = λ kept. kept }
 
-  pub declarations-show : (has : Bool) → imports_have ≡ false → directives_have ≡ false → has ≡ declarations_have → has ≡ shows_span (placed u)
-  declarations-show has isnt nor is = is ∙ sym (lists-show u ∙ third imports_have directives_have declarations_have isnt nor)
+or_true : (a : Bool) → true ≡ (a || true)
+or_true true = refl
+or_true false = refl
+
+pub a_number : {e : Event} {old new : NumberSink} → is_number e ≡ true → new.has ≡ true → new.is_refused ≡ old.is_refused → NotesNumbers (e ∷ []) old new
+a_number {e} {old} is has same = record { has = λ kept. has ∙ or_true old.has ∙ ap (λ b. old.has || (b || false)) (sym is); noted = λ kept. sym same ∙ kept }

@@ -1,5 +1,3 @@
-pub mod Places
-mod Listed
 mod Light
 pub mod Guards
 pub mod Rows

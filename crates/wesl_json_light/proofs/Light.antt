@@ -1,12 +1,16 @@
 -- Lists of borrowed values beside lists of values, item by item.
-use Rattle.std.proofs.Common.{◌≡◌, ℕ, ◌+◌, ◌<◌, List, [], ◌∷◌, ◌++◌, length, get_or, take, sym, ap, ◌∙◌}
+use Rattle.std.proofs.Common.{◌≡◌, ℕ, ◌+◌, ◌<◌, List, [], ◌∷◌, ◌++◌, length, get_or, take, refl, sym, ap, ◌∙◌}
 use Rattle.std.proofs.lemmas.List.{take_more}
+use Rattle.serde_json.specs.Data.{item}
 use Rattle.serde_json.specs.View.{view, items_view as values_view}
 use Rattle.serde_json.specs.declared.value.Value.{Value}
 use Rattle.wesl_json_form.specs.View.{borrowed_view, items_view}
 use Rattle.wesl_json_form.specs.declared.value.BorrowedValue.{BorrowedValue}
 use Rattle.wesl_json_form.proofs.Lists.{items_then, items-then}
-use Rattle.wesl_json_light.proofs.Listed.{values-then}
+
+values-then : (vs : List Value) (v : Value) → values_view (vs ++ v ∷ []) ≡ items_then (values_view vs) (view v)
+values-then [] v = refl
+values-then (w ∷ vs) v = ap (item (view w)) (values-then vs v)
 
 -- a turn of the loop that makes values of items
 pub values-turn : (xs : List BorrowedValue) (i : ℕ) (x : BorrowedValue) (vs grown : List Value) (v : Value) → i < length xs → x ≡ get_or xs i x → grown ≡ vs ++ v ∷ [] → values_view vs ≡ items_view (take i xs) → view v ≡ borrowed_view x

@@ -1,5 +1,3 @@
-pub mod View
-pub mod Place
 pub mod Order
 pub mod Numbers
 pub mod Readable

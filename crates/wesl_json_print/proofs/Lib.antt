@@ -1,2 +1,5 @@
+pub mod Directives
+pub mod Imports
 pub mod Printed
 pub mod Texts
+pub mod Writing

@@ -1,8 +1,12 @@
-//! Printing units as JSON texts, a declaration at a time.
+//! Printing units as JSON, to any sink, and as texts.
 #![tactic(auto)]
 
-mod lists;
+mod directive;
+mod import;
+mod text;
 mod unit;
 
-pub use lists::print_text;
-pub use unit::print_unit;
+pub use directive::print_directives;
+pub use import::print_imports;
+pub use text::print_text;
+pub use unit::{print_unit, print_unit_to};

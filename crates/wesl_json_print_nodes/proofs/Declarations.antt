@@ -1,21 +1,19 @@
 -- The tokens of each declaration, in the order in which they are printed.
 use Rattle.std.proofs.Common.{◌≡◌, List, [], ◌∷◌, Option, Some, None, Bool, true, false, codes, string_bytes, refl, sym, ap, ◌∙◌}
 use Rattle.std.specs.Prelude.{is_none}
-use Rattle.json.specs.Token.{begin_object}
-use Rattle.json.specs.Tree.{json_tokens}
+use Rattle.wesl_json_print_nodes.specs.Events.{begins, Event, events}
 use Rattle.serde_json.specs.Data.{Data, null, object, string, Members, no_members}
-use Rattle.serde_json.specs.Written.{outline}
 use Rattle.wesl_json_form.specs.Schema.{node, a_member, a_parameter, a_type, an_attribute, an_expression}
 use Rattle.wesl_json_form.specs.Words.{access_words, space_words}
-use Rattle.wesl_json_print_nodes.specs.Printing.{PrintsTokens, Prints, access_member, at_place, inside, space_member}
+use Rattle.wesl_json_print_nodes.specs.Printing.{PrintsEvents, Prints, access_member, at_place, inside, space_member}
 use Rattle.wesl_json_print_nodes.specs.declared.printer.Printer.{Printer}
 use Rattle.wesl_json_print_nodes.proofs.Adding.{told}
-use Rattle.wesl_json_print_nodes.proofs.Parts.{Part, part, are_apart, arranged, list_part, object_tokens, option_part, option_put, placed_tokens, put_part, puts, puts_before, span_part, tokens_of}
+use Rattle.wesl_json_print_nodes.proofs.Parts.{Part, part, arranged, by_parts, events_of, list_part, object_events, option_part, option_put, put_part, puts, puts_before, span_part}
 use Rattle.wesl_json_print_nodes.proofs.Statements.{at_key, attrs, body, expression_option, word}
-use Rattle.wesl_json_write.specs.Values.{declaration_at, declaration_in, items_in, kind_text, placed_at, statement_at, statement_in, value_in, with_list, with_member, with_option, with_row, with_space, word_value, worded}
-use Rattle.wesl_json_write.proofs.Blocks.{Attributes, children_of}
-use Rattle.wesl_json_write.proofs.Declarations.{as-alias, as-function, as-global, as-global-assert, as-local, as-local-assert, as-member, as-parameter, as-struct, declared, written-global-void, written-local-void}
-use Rattle.wesl_json_write.proofs.Placed.{placed-declaration, placed-member, placed-statement}
+use Rattle.wesl_json_words.specs.Values.{declaration_at, declaration_in, items_in, kind_text, placed_at, statement_at, statement_in, value_in, with_list, with_member, with_option, with_row, with_space, word_value, worded}
+use Rattle.wesl_json_words.proofs.Blocks.{Attributes, children_of}
+use Rattle.wesl_json_words.proofs.Declarations.{as-alias, as-function, as-global, as-global-assert, as-local, as-local-assert, as-member, as-parameter, as-struct, declared, written-global-void, written-local-void}
+use Rattle.wesl_json_words.proofs.Placed.{placed-declaration, placed-member, placed-statement}
 use Rattle.wesl_tree_base.specs.declared.span.Span.{Span}
 use Rattle.wesl_tree_names.specs.Path.{Text}
 use Rattle.wesl_tree_syntax.specs.Tree.{Kind, Tree, access, branch, declaration_node, member_node, members, parameters, space, statement_node, void}
@@ -76,10 +74,10 @@ access_inside (kinds.Var None) = refl
 access_inside (kinds.Var (Some (s, None))) = refl
 access_inside (kinds.Var (Some (s, Some m))) = refl
 
-pub space_added : {a b : Printer} (k : DeclarationKind) → PrintsTokens a b (inside (space_member k)) → PrintsTokens a b (inside (put_part (space_part k) no_members))
+pub space_added : {S : Type 0} {after : List Event → S → S → Type 0} {a b : Printer S} (k : DeclarationKind) → PrintsEvents after a b (inside (space_member k)) → PrintsEvents after a b (inside (put_part (space_part k) no_members))
 space_added k h = told (space_inside k) h
 
-pub access_added : {a b : Printer} (k : DeclarationKind) → PrintsTokens a b (inside (access_member k)) → PrintsTokens a b (inside (put_part (access_part k) no_members))
+pub access_added : {S : Type 0} {after : List Event → S → S → Type 0} {a b : Printer S} (k : DeclarationKind) → PrintsEvents after a b (inside (access_member k)) → PrintsEvents after a b (inside (put_part (access_part k) no_members))
 access_added k h = told (access_inside k) h
 
 module _ (spans : Bool) (names : List Text) where
@@ -106,33 +104,30 @@ module _ (spans : Bool) (names : List Text) where
     abbrev pub span_and : Kind → List Part → List Part
     span_and k ps = arranged (span_part spans k s ∷ ps)
 
-    by_parts : {a z : Printer} (k : Kind) (ps : List Part) (d : Data) → are_apart (span_part spans k s ∷ ps) ≡ true → object (puts ps) ≡ d → PrintsTokens a z (begin_object ∷ tokens_of (span_and k ps)) → Prints a z (at_place spans k s d)
-    by_parts k ps d apart is h = told (placed_tokens spans k s (codes "k") ps apart ∙ ap (λ e. json_tokens (outline (at_place spans k s e))) is) h
+    global : {S : Type 0} {after : List Event → S → S → Type 0} {a z : Printer S} (t : Tree) (d : Data) → d ≡ declaration_in spans names t → Prints after a z (at_place spans declaration_node s d) → Prints after a z (declaration_at spans names s t)
+    global t d is h = told (ap events (ap (at_place spans declaration_node s) is ∙ sym (placed-declaration spans names s t (codes "k")))) h
 
-    global : {a z : Printer} (t : Tree) (d : Data) → d ≡ declaration_in spans names t → Prints a z (at_place spans declaration_node s d) → Prints a z (declaration_at spans names s t)
-    global t d is h = told (ap (λ e. json_tokens (outline e)) (ap (at_place spans declaration_node s) is ∙ sym (placed-declaration spans names s t (codes "k")))) h
+    local : {S : Type 0} {after : List Event → S → S → Type 0} {a z : Printer S} (t : Tree) (d : Data) → d ≡ statement_in spans names t → Prints after a z (at_place spans statement_node s d) → Prints after a z (statement_at spans names s t)
+    local t d is h = told (ap events (ap (at_place spans statement_node s) is ∙ sym (placed-statement spans names s t (codes "k")))) h
 
-    local : {a z : Printer} (t : Tree) (d : Data) → d ≡ statement_in spans names t → Prints a z (at_place spans statement_node s d) → Prints a z (statement_at spans names s t)
-    local t d is h = told (ap (λ e. json_tokens (outline e)) (ap (at_place spans statement_node s) is ∙ sym (placed-statement spans names s t (codes "k")))) h
-
-    pub global_void : {a z : Printer} → PrintsTokens a z (begin_object ∷ tokens_of (span_and declaration_node (word (codes "void") ∷ []))) → Prints a z (declaration_at spans names s (branch void []))
+    pub global_void : {S : Type 0} {after : List Event → S → S → Type 0} {a z : Printer S} → PrintsEvents after a z (begins ∷ events_of (span_and declaration_node (word (codes "void") ∷ []))) → Prints after a z (declaration_at spans names s (branch void []))
     unfolding with_member
-    global_void h = global (branch void []) _ (sym (written-global-void spans names)) (by_parts declaration_node (word (codes "void") ∷ []) _ refl refl h)
+    global_void h = global (branch void []) _ (sym (written-global-void spans names)) (by_parts spans declaration_node s (word (codes "void") ∷ []) _ refl refl h)
 
-    pub local_void : {a z : Printer} → PrintsTokens a z (begin_object ∷ tokens_of (span_and statement_node (word (codes "void") ∷ []))) → Prints a z (statement_at spans names s (branch void []))
+    pub local_void : {S : Type 0} {after : List Event → S → S → Type 0} {a z : Printer S} → PrintsEvents after a z (begins ∷ events_of (span_and statement_node (word (codes "void") ∷ []))) → Prints after a z (statement_at spans names s (branch void []))
     unfolding with_member
-    local_void h = local (branch void []) _ (sym (written-local-void spans names)) (by_parts statement_node (word (codes "void") ∷ []) _ refl refl h)
+    local_void h = local (branch void []) _ (sym (written-local-void spans names)) (by_parts spans statement_node s (word (codes "void") ∷ []) _ refl refl h)
 
     abbrev pub asserted : ConstAssert → List Part
     asserted x = word (codes "assert") ∷ attrs spans names x.attributes ∷ at_key spans names (codes "expr") x.expression ∷ []
 
-    pub global_assert : {a z : Printer} (x : ConstAssert) → PrintsTokens a z (begin_object ∷ tokens_of (span_and declaration_node (asserted x))) → Prints a z (declaration_at spans names s (assert_view x))
+    pub global_assert : {S : Type 0} {after : List Event → S → S → Type 0} {a z : Printer S} (x : ConstAssert) → PrintsEvents after a z (begins ∷ events_of (span_and declaration_node (asserted x))) → Prints after a z (declaration_at spans names s (assert_view x))
     unfolding with_member with_list
-    global_assert x h = global (assert_view x) _ (as-global-assert spans names x _ refl) (by_parts declaration_node (asserted x) _ refl refl h)
+    global_assert x h = global (assert_view x) _ (as-global-assert spans names x _ refl) (by_parts spans declaration_node s (asserted x) _ refl refl h)
 
-    pub local_assert : {a z : Printer} (x : ConstAssert) → PrintsTokens a z (begin_object ∷ tokens_of (span_and statement_node (asserted x))) → Prints a z (statement_at spans names s (assert_view x))
+    pub local_assert : {S : Type 0} {after : List Event → S → S → Type 0} {a z : Printer S} (x : ConstAssert) → PrintsEvents after a z (begins ∷ events_of (span_and statement_node (asserted x))) → Prints after a z (statement_at spans names s (assert_view x))
     unfolding with_member with_list
-    local_assert x h = local (assert_view x) _ (as-local-assert spans names x _ refl) (by_parts statement_node (asserted x) _ refl refl h)
+    local_assert x h = local (assert_view x) _ (as-local-assert spans names x _ refl) (by_parts spans statement_node s (asserted x) _ refl refl h)
 
     abbrev pub declared_parts : Declaration → Text → Text → List Part
     declared_parts d w n =
@@ -152,25 +147,25 @@ module _ (spans : Bool) (names : List Text) where
     renamed : (d : Declaration) (w n : Text) → w ≡ kind_text d.kind → n ≡ name_in names d.ident.0 → object (puts (declared_parts d w n)) ≡ worded (kind_text d.kind) (declared spans names (children_of d.attributes) d.kind d.ident (optional type_view d.ty) (optional expression_tree d.initializer))
     renamed d w n first second = ap (λ v. object (puts (declared_parts d v n))) first ∙ ap (λ v. object (puts (declared_parts d (kind_text d.kind) v))) second ∙ declared_put d
 
-    pub global_declaration : {a z : Printer} (d : Declaration) (w n : Text) → w ≡ kind_text d.kind → n ≡ name_in names d.ident.0 → PrintsTokens a z (begin_object ∷ tokens_of (span_and declaration_node (declared_parts d w n))) → Prints a z (declaration_at spans names s (declaration_view d))
-    global_declaration d w n first second h = global (declaration_view d) _ (as-global spans names d _ refl) (by_parts declaration_node (declared_parts d w n) _ refl (renamed d w n first second) h)
+    pub global_declaration : {S : Type 0} {after : List Event → S → S → Type 0} {a z : Printer S} (d : Declaration) (w n : Text) → w ≡ kind_text d.kind → n ≡ name_in names d.ident.0 → PrintsEvents after a z (begins ∷ events_of (span_and declaration_node (declared_parts d w n))) → Prints after a z (declaration_at spans names s (declaration_view d))
+    global_declaration d w n first second h = global (declaration_view d) _ (as-global spans names d _ refl) (by_parts spans declaration_node s (declared_parts d w n) _ refl (renamed d w n first second) h)
 
-    pub local_declaration : {a z : Printer} (d : Declaration) (w n : Text) → w ≡ kind_text d.kind → n ≡ name_in names d.ident.0 → PrintsTokens a z (begin_object ∷ tokens_of (span_and statement_node (declared_parts d w n))) → Prints a z (statement_at spans names s (declaration_view d))
-    local_declaration d w n first second h = local (declaration_view d) _ (as-local spans names d _ refl) (by_parts statement_node (declared_parts d w n) _ refl (renamed d w n first second) h)
+    pub local_declaration : {S : Type 0} {after : List Event → S → S → Type 0} {a z : Printer S} (d : Declaration) (w n : Text) → w ≡ kind_text d.kind → n ≡ name_in names d.ident.0 → PrintsEvents after a z (begins ∷ events_of (span_and statement_node (declared_parts d w n))) → Prints after a z (statement_at spans names s (declaration_view d))
+    local_declaration d w n first second h = local (declaration_view d) _ (as-local spans names d _ refl) (by_parts spans statement_node s (declared_parts d w n) _ refl (renamed d w n first second) h)
 
     abbrev pub typed : Attributes → Text → TypeExpression → List Part
     typed a n t = attrs spans names a ∷ name n ∷ type_at (codes "ty") t ∷ []
 
-    pub alias_printed : {a z : Printer} (x : TypeAlias) (n : Text) → n ≡ name_in names x.ident.0 → PrintsTokens a z (begin_object ∷ tokens_of (span_and declaration_node (word (codes "alias") ∷ typed x.attributes n x.ty))) → Prints a z (declaration_at spans names s (alias_view x))
+    pub alias_printed : {S : Type 0} {after : List Event → S → S → Type 0} {a z : Printer S} (x : TypeAlias) (n : Text) → n ≡ name_in names x.ident.0 → PrintsEvents after a z (begins ∷ events_of (span_and declaration_node (word (codes "alias") ∷ typed x.attributes n x.ty))) → Prints after a z (declaration_at spans names s (alias_view x))
     unfolding with_member with_list
-    alias_printed x n is h = global (alias_view x) _ (as-alias spans names x _ refl) (by_parts declaration_node (word (codes "alias") ∷ typed x.attributes n x.ty) _ refl (ap (λ v. object (puts (word (codes "alias") ∷ typed x.attributes v x.ty))) is) h)
+    alias_printed x n is h = global (alias_view x) _ (as-alias spans names x _ refl) (by_parts spans declaration_node s (word (codes "alias") ∷ typed x.attributes n x.ty) _ refl (ap (λ v. object (puts (word (codes "alias") ∷ typed x.attributes v x.ty))) is) h)
 
     abbrev pub struct_parts : Struct → Text → List Part
     struct_parts x n = word (codes "struct") ∷ attrs spans names x.attributes ∷ name n ∷ list_part (codes "members") (items_in spans names a_member (listed (placed member_view member_node) members x.members).children) ∷ []
 
-    pub struct_printed : {a z : Printer} (x : Struct) (n : Text) → n ≡ name_in names x.ident.0 → PrintsTokens a z (begin_object ∷ tokens_of (span_and declaration_node (struct_parts x n))) → Prints a z (declaration_at spans names s (struct_view x))
+    pub struct_printed : {S : Type 0} {after : List Event → S → S → Type 0} {a z : Printer S} (x : Struct) (n : Text) → n ≡ name_in names x.ident.0 → PrintsEvents after a z (begins ∷ events_of (span_and declaration_node (struct_parts x n))) → Prints after a z (declaration_at spans names s (struct_view x))
     unfolding with_member with_list
-    struct_printed x n is h = global (struct_view x) _ (as-struct spans names x _ refl) (by_parts declaration_node (struct_parts x n) _ refl (ap (λ v. object (puts (struct_parts x v))) is) h)
+    struct_printed x n is h = global (struct_view x) _ (as-struct spans names x _ refl) (by_parts spans declaration_node s (struct_parts x n) _ refl (ap (λ v. object (puts (struct_parts x v))) is) h)
 
     abbrev function_front : Function → Text → List Part
     function_front x n =
@@ -182,23 +177,23 @@ module _ (spans : Bool) (names : List Text) where
         word (codes "fn") ∷ attrs spans names x.attributes ∷ name n ∷ list_part (codes "params") (items_in spans names a_parameter (listed parameter_view parameters x.parameters).children)
         ∷ list_part (codes "ret_attrs") (items_in spans names an_attribute (children_of x.return_attributes)) ∷ type_option (codes "ret") x.return_type ∷ body spans names x.body ∷ []
 
-    pub function_printed : {a z : Printer} (x : Function) (n : Text) → n ≡ name_in names x.ident.0 → PrintsTokens a z (begin_object ∷ tokens_of (span_and declaration_node (function_parts x n))) → Prints a z (declaration_at spans names s (function_view x))
+    pub function_printed : {S : Type 0} {after : List Event → S → S → Type 0} {a z : Printer S} (x : Function) (n : Text) → n ≡ name_in names x.ident.0 → PrintsEvents after a z (begins ∷ events_of (span_and declaration_node (function_parts x n))) → Prints after a z (declaration_at spans names s (function_view x))
     unfolding with_member with_list
     function_printed x n is h =
         global (function_view x) _ (as-function spans names x _ refl)
-        (by_parts declaration_node (function_parts x n) _ refl
+        (by_parts spans declaration_node s (function_parts x n) _ refl
         (ap (λ v. object (puts (function_parts x v))) is
         ∙ ap (λ ms. object (puts_before (function_front x (name_in names x.ident.0)) ms)) (option_put spans names (codes "ret") (node a_type) type_view x.return_type (put_part (body spans names x.body) no_members)))
         h)
 
-    pub member_printed : {a z : Printer} (x : StructMember) → PrintsTokens a z (begin_object ∷ tokens_of (span_and member_node (typed x.attributes (string_bytes x.name) x.ty))) → Prints a z (placed_at spans names a_member member_node s (member_view x))
+    pub member_printed : {S : Type 0} {after : List Event → S → S → Type 0} {a z : Printer S} (x : StructMember) → PrintsEvents after a z (begins ∷ events_of (span_and member_node (typed x.attributes (string_bytes x.name) x.ty))) → Prints after a z (placed_at spans names a_member member_node s (member_view x))
     unfolding with_member with_list
     member_printed x h =
-        told (ap (λ e. json_tokens (outline e)) (ap (at_place spans member_node s) (as-member spans names x _ refl) ∙ sym (placed-member spans names s (member_view x) (codes "k")))) (by_parts member_node (typed x.attributes (string_bytes x.name) x.ty) _ refl refl h)
+        told (ap events (ap (at_place spans member_node s) (as-member spans names x _ refl) ∙ sym (placed-member spans names s (member_view x) (codes "k")))) (by_parts spans member_node s (typed x.attributes (string_bytes x.name) x.ty) _ refl refl h)
 
   abbrev pub parameter_parts : FormalParameter → Text → List Part
   parameter_parts x n = attrs spans names x.attributes ∷ name n ∷ type_at (codes "ty") x.ty ∷ []
 
-  pub parameter_printed : {a z : Printer} (x : FormalParameter) (n : Text) → n ≡ name_in names x.ident.0 → PrintsTokens a z (begin_object ∷ tokens_of (arranged (parameter_parts x n))) → Prints a z (value_in spans names (node a_parameter) (parameter_view x))
+  pub parameter_printed : {S : Type 0} {after : List Event → S → S → Type 0} {a z : Printer S} (x : FormalParameter) (n : Text) → n ≡ name_in names x.ident.0 → PrintsEvents after a z (begins ∷ events_of (arranged (parameter_parts x n))) → Prints after a z (value_in spans names (node a_parameter) (parameter_view x))
   unfolding with_member with_list
-  parameter_printed x n is h = told (object_tokens (parameter_parts x n) refl ∙ ap (λ e. json_tokens (outline e)) (ap (λ v. object (puts (parameter_parts x v))) is ∙ as-parameter spans names x _ refl)) h
+  parameter_printed x n is h = told (object_events (parameter_parts x n) refl ∙ ap events (ap (λ v. object (puts (parameter_parts x v))) is ∙ as-parameter spans names x _ refl)) h

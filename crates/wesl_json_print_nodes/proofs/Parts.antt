@@ -1,20 +1,18 @@
 -- The members of an object, in the order of their keys whatever the order in which they are put.
 use Rattle.std.proofs.Common.{◌≡◌, ◌&&◌, List, [], ◌∷◌, ◌++◌, Bool, true, false, not, if◌then◌else◌, append-nil, true≢false, codes, refl, sym, ap, ◌∙◌, Ordering, Less, Equal, Greater, Option, None, Some}
-use Rattle.std.specs.Prelude.{decimal, is_none}
+use Rattle.std.specs.Prelude.{is_none}
 use Rattle.std.specs.Ordering.{nat_cmp, match_ordering}
 use Rattle.std.specs.Cmp.Lexicographic.{slice_cmp}
-use Rattle.json.specs.Token.{Token, begin_array, begin_object, end_array, end_object, key, number}
-use Rattle.json.specs.Tree.{json_tokens, members_tokens}
-use Rattle.serde_json.specs.Data.{Data, array, null, object, Items, Members, no_members, member, put}
-use Rattle.serde_json.specs.Written.{members_outline, outline}
+use Rattle.wesl_json_print_nodes.specs.Events.{begins, begins_list, ends, ends_list, Event, events, gives, key, members_events}
+use Rattle.serde_json.specs.Data.{Data, array, null, number, object, unsigned, Items, Members, no_members, member, put}
 use Rattle.wesl_json_form.specs.Schema.{Form, SpelledLabel}
 use Rattle.wesl_json_form.specs.Writing.{is_empty_array, is_placed, put_span, span_value}
-use Rattle.wesl_json_print_nodes.specs.Printing.{PrintsTokens, PrintsMember, PrintsMembers, inside}
+use Rattle.wesl_json_print_nodes.specs.Printing.{PrintsEvents, Prints, PrintsMember, PrintsMembers, at_place, inside}
 use Rattle.wesl_json_print_nodes.specs.declared.printer.Printer.{Printer}
-use Rattle.wesl_json_print_nodes.proofs.Adding.{none, told}
-use Rattle.wesl_json_write.proofs.Expressions.{option-none, option-some}
-use Rattle.wesl_json_write.proofs.Placed.{span_by}
-use Rattle.wesl_json_write.specs.Values.{end_of, place_label, placed_data, start_of, value_in, with_member, with_option, with_place}
+use Rattle.wesl_json_print_nodes.proofs.Adding.{Lawful, none, told}
+use Rattle.wesl_json_words.proofs.Expressions.{option-none, option-some}
+use Rattle.wesl_json_words.proofs.Placed.{span_by}
+use Rattle.wesl_json_words.specs.Values.{end_of, place_label, placed_data, start_of, value_in, with_member, with_option, with_place}
 use Rattle.wesl_tree_base.specs.declared.span.Span.{Span}
 use Rattle.wesl_tree_names.specs.Path.{Text}
 use Rattle.wesl_tree_syntax.specs.Tree.{Kind, Tree}
@@ -116,18 +114,18 @@ put_in_order (part k b d ∷ ps) h =
 -- ---- their tokens
 
 -- of members in this order, with the end of the object
-abbrev pub tokens_of : List Part → List Token
-tokens_of [] = end_object ∷ []
-tokens_of (p ∷ ps) = inside (put_part p no_members) ++ tokens_of ps
+abbrev pub events_of : List Part → List Event
+events_of [] = ends ∷ []
+events_of (p ∷ ps) = inside (put_part p no_members) ++ events_of ps
 
-filled_tokens : (qs : List Part) → members_tokens (members_outline (filled qs)) ≡ tokens_of qs
-filled_tokens [] = refl
-filled_tokens (part k true d ∷ qs) = filled_tokens qs
-filled_tokens (part k false d ∷ qs) = ap (λ ts. key k ∷ ts) (ap (λ ts. json_tokens (outline d) ++ ts) (filled_tokens qs) ∙ ap (λ ts. ts ++ tokens_of qs) (sym (append-nil (json_tokens (outline d)))))
+filled_events : (qs : List Part) → members_events (filled qs) ≡ events_of qs
+filled_events [] = refl
+filled_events (part k true d ∷ qs) = filled_events qs
+filled_events (part k false d ∷ qs) = ap (λ ts. key k ∷ ts) (ap (λ ts. events d ++ ts) (filled_events qs) ∙ ap (λ ts. ts ++ events_of qs) (sym (append-nil (events d))))
 
 -- an object's tokens
-pub object_tokens : (ps : List Part) → are_apart ps ≡ true → begin_object ∷ tokens_of (arranged ps) ≡ json_tokens (outline (object (puts ps)))
-object_tokens ps apart = ap (λ ts. begin_object ∷ ts) (sym (ap (λ ms. members_tokens (members_outline ms)) (put_in_order ps apart) ∙ filled_tokens (arranged ps)))
+pub object_events : (ps : List Part) → are_apart ps ≡ true → begins ∷ events_of (arranged ps) ≡ events (object (puts ps))
+object_events ps apart = ap (λ ts. begins ∷ ts) (sym (ap members_events (put_in_order ps apart) ∙ filled_events (arranged ps)))
 
 -- ---- a span
 
@@ -142,13 +140,13 @@ module _ (spans : Bool) (k : Kind) (s : Span) where
   unless_not true xs ms = refl
   unless_not false xs ms = refl
 
-  pub span_added : {a b : Printer} → PrintsTokens a b (inside (put_span spans label no_members)) → PrintsTokens a b (inside (put_part span_part no_members))
+  pub span_added : {S : Type 0} {after : List Event → S → S → Type 0} {a b : Printer S} → PrintsEvents after a b (inside (put_span spans label no_members)) → PrintsEvents after a b (inside (put_part span_part no_members))
   span_added h =
       told (ap inside (span_by spans k (start_of label) (end_of label) no_members (is_placed spans label) refl ∙ unless_not (is_placed spans label) (put (codes "span") (span_value (start_of label) (end_of label)) no_members) no_members)) h
 
   -- the members that a span is, where it is printed and where it is not
-  pub span_hidden : (a : Printer) → is_placed spans label ≡ false → PrintsMembers a a (put_span spans label no_members)
-  span_hidden a is = told (ap inside (sym (span_by spans k (start_of label) (end_of label) no_members false is))) (none a)
+  pub span_hidden : {S : Type 0} {after : List Event → S → S → Type 0} (l : Lawful after) (a : Printer S) → is_placed spans label ≡ false → PrintsMembers after a a (put_span spans label no_members)
+  span_hidden l a is = told (ap inside (sym (span_by spans k (start_of label) (end_of label) no_members false is))) (none l a)
 
   placed_puts : (q : Text) (ps : List Part) → with_place spans label q (object (puts ps)) ≡ object (puts (span_part ∷ ps))
   unfolding with_place placed_data
@@ -159,8 +157,12 @@ module _ (spans : Bool) (k : Kind) (s : Span) where
       at_test false = refl
 
   -- the tokens of an object with its span, where that is printed
-  pub placed_tokens : (q : Text) (ps : List Part) → are_apart (span_part ∷ ps) ≡ true → begin_object ∷ tokens_of (arranged (span_part ∷ ps)) ≡ json_tokens (outline (with_place spans label q (object (puts ps))))
-  placed_tokens q ps apart = object_tokens (span_part ∷ ps) apart ∙ ap (λ d. json_tokens (outline d)) (sym (placed_puts q ps))
+  pub placed_events : (q : Text) (ps : List Part) → are_apart (span_part ∷ ps) ≡ true → begins ∷ events_of (arranged (span_part ∷ ps)) ≡ events (with_place spans label q (object (puts ps)))
+  placed_events q ps apart = object_events (span_part ∷ ps) apart ∙ ap events (sym (placed_puts q ps))
+
+  -- an object with its span, by its members
+  pub by_parts : {S : Type 0} {after : List Event → S → S → Type 0} {a z : Printer S} (ps : List Part) (d : Data) → are_apart (span_part ∷ ps) ≡ true → object (puts ps) ≡ d → PrintsEvents after a z (begins ∷ events_of (arranged (span_part ∷ ps))) → Prints after a z (at_place spans k s d)
+  by_parts ps d apart is h = told (placed_events (codes "k") ps apart ∙ ap (λ e. events (at_place spans k s e)) is) h
 
 -- ---- lists and options
 
@@ -180,17 +182,17 @@ module _ (spans : Bool) (names : List Text) (k : Text) (f : Form) {A : Type 0} (
   option_put None ms = option-none spans names k f g None ms refl
   option_put (Some x) ms = option-some spans names k f g (Some x) x (value_in spans names f (g x)) ms (put k (value_in spans names f (g x)) ms) refl refl refl
 
-  pub option_added : {a b : Printer} (o : Option A) → PrintsTokens a b (inside (with_option k spans names f (optional g o) no_members)) → PrintsTokens a b (inside (put_part (option_part o) no_members))
+  pub option_added : {S : Type 0} {after : List Event → S → S → Type 0} {a b : Printer S} (o : Option A) → PrintsEvents after a b (inside (with_option k spans names f (optional g o) no_members)) → PrintsEvents after a b (inside (put_part (option_part o) no_members))
   option_added o h = told (ap inside (sym (option_put o no_members))) h
 
-  pub no_option : (a : Printer) (o : Option A) → o ≡ None → PrintsMembers a a (with_option k spans names f (optional g o) no_members)
-  no_option a o is = told (ap inside (option-none spans names k f g o no_members is)) (none a)
+  pub no_option : {S : Type 0} {after : List Event → S → S → Type 0} (l : Lawful after) (a : Printer S) (o : Option A) → o ≡ None → PrintsMembers after a a (with_option k spans names f (optional g o) no_members)
+  no_option l a o is = told (ap inside (option-none spans names k f g o no_members is)) (none l a)
 
-  pub some_option : {a b : Printer} (o : Option A) (x : A) (d : Data) → o ≡ Some x → d ≡ value_in spans names f (g x) → PrintsMember a b k d → PrintsMembers a b (with_option k spans names f (optional g o) no_members)
+  pub some_option : {S : Type 0} {after : List Event → S → S → Type 0} {a b : Printer S} (o : Option A) (x : A) (d : Data) → o ≡ Some x → d ≡ value_in spans names f (g x) → PrintsMember after a b k d → PrintsMembers after a b (with_option k spans names f (optional g o) no_members)
   unfolding with_member
   some_option o x d is this h = told (ap inside (option-some spans names k f g o x d no_members (member k d no_members) is this refl)) h
 
-pub span_shown : {a b : Printer} (spans : Bool) (k : Kind) (s : Span) → is_placed spans (place_label spans k s) ≡ true
-    → PrintsTokens a b (key (codes "span") ∷ begin_array ∷ number (decimal s.start) ∷ number (decimal s.end) ∷ end_array ∷ []) → PrintsMembers a b (put_span spans (place_label spans k s) no_members)
+pub span_shown : {S : Type 0} {after : List Event → S → S → Type 0} {a b : Printer S} (spans : Bool) (k : Kind) (s : Span) → is_placed spans (place_label spans k s) ≡ true
+    → PrintsEvents after a b (key (codes "span") ∷ begins_list ∷ gives (number (unsigned s.start)) ∷ gives (number (unsigned s.end)) ∷ ends_list ∷ []) → PrintsMembers after a b (put_span spans (place_label spans k s) no_members)
 span_shown true k s is h = told (ap inside (sym (span_by true k s.start s.end no_members true is))) h
 span_shown false k s is h = absurd (true≢false (sym is))

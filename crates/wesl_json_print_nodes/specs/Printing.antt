@@ -1,11 +1,9 @@
--- What a printer that notes want of memory says of what it printed.
-use Rattle.std.specs.Prelude.{◌≡◌, List, [], ◌∷◌, ◌++◌, Bool, false, None, Option, Some, Vec, codes}
+-- What a sink was told by a printer.
+use Rattle.std.specs.Prelude.{List, [], ◌∷◌, ◌++◌, Bool, None, Option, Some, Vec, codes}
 use Rattle.std.specs.Global.{Box}
 use Rattle.std.specs.declared.alloc.Global.{Global}
-use Rattle.json.specs.Token.{Token, key}
-use Rattle.json.specs.Tree.{json_tokens}
+use Rattle.wesl_json_print_nodes.specs.Events.{Event, events, key}
 use Rattle.serde_json.specs.Data.{Data, array, string, Items, Members, no_members, member}
-use Rattle.serde_json.specs.Written.{outline}
 use Rattle.wesl_tree_base.specs.declared.span.Span.{Span}
 use Rattle.wesl_tree_names.specs.Path.{Text}
 use Rattle.wesl_tree_names.specs.declared.names.Ident.{Ident}
@@ -21,18 +19,17 @@ use Rattle.wesl_tree_syntax.specs.declared.declaration.DeclarationKind.TheVarian
 use Rattle.wesl_json_form.specs.Schema.{an_expression, node}
 use Rattle.wesl_json_form.specs.Words.{access_words, space_words}
 use Rattle.wesl_json_form.specs.Writing.{put_list}
-use Rattle.wesl_json_write.specs.Values.{bare, call_members, expression_data, place_label, with_attributes, with_member, with_option, with_place, word_value, worded}
+use Rattle.wesl_json_words.specs.Values.{bare, call_members, expression_data, place_label, with_attributes, with_member, with_option, with_place, word_value, worded}
 use Rattle.wesl_json_print_nodes.specs.declared.printer.Printer.{Printer}
 
--- Unless memory was wanting by then: the tokens are those before and these, behind the same text, and memory was not wanting before either.
-pub record PrintsTokens (old new : Printer) (ts : List Token) : Type 0 where
-  pub tokens : new.is_refused ≡ false → new.out.tokens ≡ old.out.tokens ++ ts
-  pub before : new.is_refused ≡ false → new.out.before ≡ old.out.before
-  pub noted : new.is_refused ≡ false → old.is_refused ≡ false
+module _ {S : Type 0} where
+  -- the sink was told these events
+  pub record PrintsEvents (after : List Event → S → S → Type 0) (old new : Printer S) (es : List Event) : Type 0 where
+    pub told : after es old.sink new.sink
 
 -- a value is printed
-abbrev pub Prints : Printer → Printer → Data → Type 0
-Prints old new d = PrintsTokens old new (json_tokens (outline d))
+abbrev pub Prints : {S : Type 0} → (List Event → S → S → Type 0) → Printer S → Printer S → Data → Type 0
+Prints after old new d = PrintsEvents after old new (events d)
 
 -- what a node at a place is written as, by what it is where it has none; a text in it stands at `k`
 abbrev pub at_place : Bool → Kind → Span → Data → Data
@@ -43,21 +40,21 @@ abbrev pub named_at : Bool → Span → Data → Data
 named_at spans s d = with_place spans (place_label spans expression_node s) (codes "name") d
 
 -- members as they stand in an object, one behind another
-abbrev pub inside : Members → List Token
+abbrev pub inside : Members → List Event
 inside no_members = []
-inside (member k d ms) = key k ∷ (json_tokens (outline d) ++ inside ms)
+inside (member k d ms) = key k ∷ (events d ++ inside ms)
 
 -- members of an object are printed
-abbrev pub PrintsMembers : Printer → Printer → Members → Type 0
-PrintsMembers old new ms = PrintsTokens old new (inside ms)
+abbrev pub PrintsMembers : {S : Type 0} → (List Event → S → S → Type 0) → Printer S → Printer S → Members → Type 0
+PrintsMembers after old new ms = PrintsEvents after old new (inside ms)
 
 -- a value at a key
-abbrev pub PrintsMember : Printer → Printer → Text → Data → Type 0
-PrintsMember old new k d = PrintsMembers old new (member k d no_members)
+abbrev pub PrintsMember : {S : Type 0} → (List Event → S → S → Type 0) → Printer S → Printer S → Text → Data → Type 0
+PrintsMember after old new k d = PrintsMembers after old new (member k d no_members)
 
 -- a list at a key, unless it is empty
-abbrev pub PrintsList : Printer → Printer → Text → Items → Type 0
-PrintsList old new k ds = PrintsMembers old new (put_list k (array ds) no_members)
+abbrev pub PrintsList : {S : Type 0} → (List Event → S → S → Type 0) → Printer S → Printer S → Text → Items → Type 0
+PrintsList after old new k ds = PrintsMembers after old new (put_list k (array ds) no_members)
 
 -- a type without arguments
 abbrev pub plain_type_tree : Option (Box ModulePath) → Ident → Tree

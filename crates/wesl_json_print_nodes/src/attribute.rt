@@ -4,25 +4,26 @@ ghost use Rattle.serde_json.specs.Data.{array, no_members, string};
 ghost use Rattle.wesl_json_form.specs.Schema.{an_attribute};
 ghost use Rattle.wesl_json_form.specs.Writing.{texts_value};
 ghost use Rattle.wesl_json_print_nodes.specs.Printing.{Prints, PrintsList, at_place, custom_tree, diagnosed};
-ghost use Rattle.wesl_json_write.specs.Values.{attribute_at, attribute_in, expression_data, items_in, with_list, with_member, workgroup_size, worded};
+ghost use Rattle.wesl_json_words.specs.Values.{attribute_at, attribute_in, expression_data, items_in, with_list, with_member, workgroup_size, worded};
 ghost use Rattle.wesl_tree_syntax.specs.Tree.{attribute_node};
 ghost use Rattle.wesl_tree_syntax.specs.View.{attribute_view, attributes_tree, expression_tree, optional, texts_of};
 
 use crate::expression::{print_expression_at, print_expressions, print_optional_expression};
 use crate::printer::Printer;
-use wesl_json_write::is_shown;
+use crate::sink::Sink;
+use wesl_json_words::is_shown;
 use wesl_tree_names::{Names, Span};
 use wesl_tree_syntax::{Attribute, Attributes, ExpressionNode};
 
-/// Prints the attributes of a node, unless there are none.
-pub(crate) fn print_attributes(
-    out: &mut Printer,
+/// Prints the attributes of a node at a key, unless there are none.
+pub fn print_attributes<S: Sink>(
+    out: &mut Printer<S>,
     spans: bool,
     names: &Names,
     key: &str,
     attributes: &Attributes,
 )
-    ensures { PrintsList out.old out.new key.now (items_in spans names.now an_attribute (attributes_tree attributes.now).children) }
+    ensures { PrintsList S.after out.old out.new key.now (items_in spans names.now an_attribute (attributes_tree attributes.now).children) }
 {
     if !attributes.is_empty() {
         out.key(key);
@@ -31,8 +32,8 @@ pub(crate) fn print_attributes(
 }
 
 // Prints attributes as a list.
-fn print_each(out: &mut Printer, spans: bool, names: &Names, attributes: &Attributes)
-    ensures { Prints out.old out.new (array (items_in spans names.now an_attribute (attributes_tree attributes.now).children)) }
+fn print_each<S: Sink>(out: &mut Printer<S>, spans: bool, names: &Names, attributes: &Attributes)
+    ensures { Prints S.after out.old out.new (array (items_in spans names.now an_attribute (attributes_tree attributes.now).children)) }
 {
     out.begin_list();
     for attribute in attributes {
@@ -41,8 +42,14 @@ fn print_each(out: &mut Printer, spans: bool, names: &Names, attributes: &Attrib
     out.close_list();
 }
 
-fn print_attribute(out: &mut Printer, spans: bool, names: &Names, attribute: &Attribute, span: Span)
-    ensures { Prints out.old out.new (attribute_at spans names.now span (attribute_view attribute.now)) }
+fn print_attribute<S: Sink>(
+    out: &mut Printer<S>,
+    spans: bool,
+    names: &Names,
+    attribute: &Attribute,
+    span: Span,
+)
+    ensures { Prints S.after out.old out.new (attribute_at spans names.now span (attribute_view attribute.now)) }
 {
     match attribute {
         Attribute::Align(operand) => print_operand(out, spans, names, "align", operand, span),
@@ -80,15 +87,15 @@ fn print_attribute(out: &mut Printer, spans: bool, names: &Names, attribute: &At
     }
 }
 
-fn print_operand(
-    out: &mut Printer,
+fn print_operand<S: Sink>(
+    out: &mut Printer<S>,
     spans: bool,
     names: &Names,
     word: &str,
     operand: &ExpressionNode,
     span: Span,
 )
-    ensures { Prints out.old out.new (at_place spans attribute_node span (worded word.now (with_member (codes "expr") (expression_data spans names.now operand.now) no_members))) }
+    ensures { Prints S.after out.old out.new (at_place spans attribute_node span (worded word.now (with_member (codes "expr") (expression_data spans names.now operand.now) no_members))) }
 {
     out.begin();
     print_expression_at(out, spans, names, "expr", &operand.node, operand.span);
@@ -97,8 +104,8 @@ fn print_operand(
     out.close();
 }
 
-fn print_named(out: &mut Printer, spans: bool, word: &str, name: &str, span: Span)
-    ensures { Prints out.old out.new (at_place spans attribute_node span (worded word.now (with_member (codes "name") (string name.now) no_members))) }
+fn print_named<S: Sink>(out: &mut Printer<S>, spans: bool, word: &str, name: &str, span: Span)
+    ensures { Prints S.after out.old out.new (at_place spans attribute_node span (worded word.now (with_member (codes "name") (string name.now) no_members))) }
 {
     out.begin();
     out.text_at("k", word);
@@ -108,8 +115,8 @@ fn print_named(out: &mut Printer, spans: bool, word: &str, name: &str, span: Spa
 }
 
 // Prints an attribute that is a word alone: an object where it has a place.
-fn print_word(out: &mut Printer, spans: bool, word: &str, span: Span)
-    ensures { Prints out.old out.new (at_place spans attribute_node span (string word.now)) }
+fn print_word<S: Sink>(out: &mut Printer<S>, spans: bool, word: &str, span: Span)
+    ensures { Prints S.after out.old out.new (at_place spans attribute_node span (string word.now)) }
 {
     if is_shown(spans, span) {
         out.begin();
@@ -121,8 +128,14 @@ fn print_word(out: &mut Printer, spans: bool, word: &str, span: Span)
     }
 }
 
-fn print_diagnostic(out: &mut Printer, spans: bool, severity: &str, rule: &str, span: Span)
-    ensures { Prints out.old out.new (at_place spans attribute_node span (diagnosed severity.now rule.now)) }
+fn print_diagnostic<S: Sink>(
+    out: &mut Printer<S>,
+    spans: bool,
+    severity: &str,
+    rule: &str,
+    span: Span,
+)
+    ensures { Prints S.after out.old out.new (at_place spans attribute_node span (diagnosed severity.now rule.now)) }
 {
     out.begin();
     out.text_at("k", "diagnostic");
@@ -132,28 +145,28 @@ fn print_diagnostic(out: &mut Printer, spans: bool, severity: &str, rule: &str, 
     out.close();
 }
 
-fn print_interpolate(out: &mut Printer, spans: bool, texts: &Vec<String>, span: Span)
-    ensures { Prints out.old out.new (at_place spans attribute_node span (worded (codes "interpolate") (with_list (codes "names") (texts_value (texts_of texts.now)) no_members))) }
+fn print_interpolate<S: Sink>(out: &mut Printer<S>, spans: bool, texts: &Vec<String>, span: Span)
+    ensures { Prints S.after out.old out.new (at_place spans attribute_node span (worded (codes "interpolate") (with_list (codes "names") (texts_value (texts_of texts.now)) no_members))) }
 {
     out.begin();
     out.text_at("k", "interpolate");
-    print_names(out, texts);
+    print_names(out, "names", texts);
     out.span(spans, span);
     out.close();
 }
 
-// Prints names, unless there are none.
-fn print_names(out: &mut Printer, texts: &Vec<String>)
-    ensures { PrintsList out.old out.new (codes "names") (texts_value (texts_of texts.now)) }
+/// Prints names at a key, unless there are none.
+pub fn print_names<S: Sink>(out: &mut Printer<S>, key: &str, texts: &Vec<String>)
+    ensures { PrintsList S.after out.old out.new key.now (texts_value (texts_of texts.now)) }
 {
     if !texts.is_empty() {
-        out.key("names");
+        out.key(key);
         print_texts(out, texts);
     }
 }
 
-fn print_texts(out: &mut Printer, texts: &Vec<String>)
-    ensures { Prints out.old out.new (array (texts_value (texts_of texts.now))) }
+fn print_texts<S: Sink>(out: &mut Printer<S>, texts: &Vec<String>)
+    ensures { Prints S.after out.old out.new (array (texts_value (texts_of texts.now))) }
 {
     out.begin_list();
     for text in texts {
@@ -162,8 +175,8 @@ fn print_texts(out: &mut Printer, texts: &Vec<String>)
     out.close_list();
 }
 
-fn print_workgroup(
-    out: &mut Printer,
+fn print_workgroup<S: Sink>(
+    out: &mut Printer<S>,
     spans: bool,
     names: &Names,
     x: &ExpressionNode,
@@ -171,7 +184,7 @@ fn print_workgroup(
     z: &Option<ExpressionNode>,
     span: Span,
 )
-    ensures { Prints out.old out.new (at_place spans attribute_node span (workgroup_size spans names.now x.now (optional expression_tree y.now) (optional expression_tree z.now))) }
+    ensures { Prints S.after out.old out.new (at_place spans attribute_node span (workgroup_size spans names.now x.now (optional expression_tree y.now) (optional expression_tree z.now))) }
 {
     out.begin();
     out.text_at("k", "workgroup_size");
@@ -182,15 +195,15 @@ fn print_workgroup(
     out.close();
 }
 
-fn print_custom(
-    out: &mut Printer,
+fn print_custom<S: Sink>(
+    out: &mut Printer<S>,
     spans: bool,
     names: &Names,
     name: &str,
     arguments: &Option<Vec<ExpressionNode>>,
     span: Span,
 )
-    ensures { Prints out.old out.new (at_place spans attribute_node span (attribute_in spans names.now (custom_tree name.now arguments.now))) }
+    ensures { Prints S.after out.old out.new (at_place spans attribute_node span (attribute_in spans names.now (custom_tree name.now arguments.now))) }
 {
     match arguments {
         None => print_named(out, spans, "custom", name, span),

@@ -3,7 +3,7 @@ ghost use Rattle.std.specs.Prelude.{codes};
 ghost use Rattle.serde_json.specs.Data.{array, no_members};
 ghost use Rattle.wesl_json_form.specs.Schema.{a_declaration, a_member, a_parameter, node as node_form};
 ghost use Rattle.wesl_json_print_nodes.specs.Printing.{Prints, PrintsList, PrintsMembers, access_member, mode_member, space_member};
-ghost use Rattle.wesl_json_write.specs.Values.{declaration_at, items_in, placed_at, statement_at, value_in};
+ghost use Rattle.wesl_json_words.specs.Values.{declaration_at, items_in, placed_at, statement_at, value_in};
 ghost use Rattle.wesl_tree_syntax.specs.Tree.{member_node, members as members_kind, parameters as parameters_kind};
 ghost use Rattle.wesl_tree_syntax.specs.View.{alias_view, assert_view, declaration_view, declarations_tree, function_view, global_view, listed, member_view, parameter_view, placed, struct_view};
 
@@ -12,8 +12,9 @@ use crate::expression::{
     print_expression_at, print_optional_expression, print_optional_type, print_type_at,
 };
 use crate::printer::Printer;
+use crate::sink::Sink;
 use crate::statement::{print_body_at, print_void};
-use wesl_json_write::{access_word, kind_word, space_word, spelling};
+use wesl_json_words::{access_word, kind_word, space_word, spelling};
 use wesl_tree_names::{Names, Span};
 use wesl_tree_syntax::{
     AccessMode, ConstAssert, Declaration, DeclarationKind, FormalParameter, Function,
@@ -21,13 +22,13 @@ use wesl_tree_syntax::{
 };
 
 /// Prints the member of the declarations of a module, unless there are none.
-pub fn print_declarations(
-    out: &mut Printer,
+pub fn print_declarations<S: Sink>(
+    out: &mut Printer<S>,
     spans: bool,
     names: &Names,
     declarations: &Vec<GlobalDeclarationNode>,
 )
-    ensures { PrintsList out.old out.new (codes "declarations") (items_in spans names.now a_declaration (declarations_tree declarations.now).children) }
+    ensures { PrintsList S.after out.old out.new (codes "declarations") (items_in spans names.now a_declaration (declarations_tree declarations.now).children) }
 {
     if !declarations.is_empty() {
         out.key("declarations");
@@ -35,13 +36,13 @@ pub fn print_declarations(
     }
 }
 
-fn print_each(
-    out: &mut Printer,
+fn print_each<S: Sink>(
+    out: &mut Printer<S>,
     spans: bool,
     names: &Names,
     declarations: &Vec<GlobalDeclarationNode>,
 )
-    ensures { Prints out.old out.new (array (items_in spans names.now a_declaration (declarations_tree declarations.now).children)) }
+    ensures { Prints S.after out.old out.new (array (items_in spans names.now a_declaration (declarations_tree declarations.now).children)) }
 {
     out.begin_list();
     for declaration in declarations {
@@ -50,14 +51,14 @@ fn print_each(
     out.close_list();
 }
 
-fn print_global(
-    out: &mut Printer,
+fn print_global<S: Sink>(
+    out: &mut Printer<S>,
     spans: bool,
     names: &Names,
     declaration: &GlobalDeclaration,
     span: Span,
 )
-    ensures { Prints out.old out.new (declaration_at spans names.now span (global_view declaration.now)) }
+    ensures { Prints S.after out.old out.new (declaration_at spans names.now span (global_view declaration.now)) }
 {
     match declaration {
         GlobalDeclaration::Void => print_void(out, spans, names, span),
@@ -74,15 +75,15 @@ fn print_global(
 }
 
 /// Prints a declaration, which is the same in a module and in a function.
-pub(crate) fn print_declaration(
-    out: &mut Printer,
+pub(crate) fn print_declaration<S: Sink>(
+    out: &mut Printer<S>,
     spans: bool,
     names: &Names,
     declaration: &Declaration,
     span: Span,
 )
-    ensures global { Prints out.old out.new (declaration_at spans names.now span (declaration_view declaration.now)) }
-    ensures local { Prints out.old out.new (statement_at spans names.now span (declaration_view declaration.now)) }
+    ensures global { Prints S.after out.old out.new (declaration_at spans names.now span (declaration_view declaration.now)) }
+    ensures local { Prints S.after out.old out.new (statement_at spans names.now span (declaration_view declaration.now)) }
 {
     out.begin();
     print_access(out, declaration.kind);
@@ -97,8 +98,8 @@ pub(crate) fn print_declaration(
 }
 
 // Prints the access mode of a variable, where it has one.
-fn print_access(out: &mut Printer, kind: DeclarationKind)
-    ensures { PrintsMembers out.old out.new (access_member kind) }
+fn print_access<S: Sink>(out: &mut Printer<S>, kind: DeclarationKind)
+    ensures { PrintsMembers S.after out.old out.new (access_member kind) }
 {
     match kind {
         DeclarationKind::Const => {}
@@ -109,8 +110,8 @@ fn print_access(out: &mut Printer, kind: DeclarationKind)
     }
 }
 
-fn print_mode(out: &mut Printer, mode: Option<AccessMode>)
-    ensures { PrintsMembers out.old out.new (mode_member mode) }
+fn print_mode<S: Sink>(out: &mut Printer<S>, mode: Option<AccessMode>)
+    ensures { PrintsMembers S.after out.old out.new (mode_member mode) }
 {
     match mode {
         None => {}
@@ -119,8 +120,8 @@ fn print_mode(out: &mut Printer, mode: Option<AccessMode>)
 }
 
 // Prints the address space of a variable, where it has one.
-fn print_space(out: &mut Printer, kind: DeclarationKind)
-    ensures { PrintsMembers out.old out.new (space_member kind) }
+fn print_space<S: Sink>(out: &mut Printer<S>, kind: DeclarationKind)
+    ensures { PrintsMembers S.after out.old out.new (space_member kind) }
 {
     match kind {
         DeclarationKind::Const => {}
@@ -131,8 +132,14 @@ fn print_space(out: &mut Printer, kind: DeclarationKind)
     }
 }
 
-fn print_alias(out: &mut Printer, spans: bool, names: &Names, alias: &TypeAlias, span: Span)
-    ensures { Prints out.old out.new (declaration_at spans names.now span (alias_view alias.now)) }
+fn print_alias<S: Sink>(
+    out: &mut Printer<S>,
+    spans: bool,
+    names: &Names,
+    alias: &TypeAlias,
+    span: Span,
+)
+    ensures { Prints S.after out.old out.new (declaration_at spans names.now span (alias_view alias.now)) }
 {
     out.begin();
     print_attributes(out, spans, names, "attrs", &alias.attributes);
@@ -143,8 +150,14 @@ fn print_alias(out: &mut Printer, spans: bool, names: &Names, alias: &TypeAlias,
     out.close();
 }
 
-fn print_struct(out: &mut Printer, spans: bool, names: &Names, structure: &Struct, span: Span)
-    ensures { Prints out.old out.new (declaration_at spans names.now span (struct_view structure.now)) }
+fn print_struct<S: Sink>(
+    out: &mut Printer<S>,
+    spans: bool,
+    names: &Names,
+    structure: &Struct,
+    span: Span,
+)
+    ensures { Prints S.after out.old out.new (declaration_at spans names.now span (struct_view structure.now)) }
 {
     out.begin();
     print_attributes(out, spans, names, "attrs", &structure.attributes);
@@ -155,8 +168,13 @@ fn print_struct(out: &mut Printer, spans: bool, names: &Names, structure: &Struc
     out.close();
 }
 
-fn print_members(out: &mut Printer, spans: bool, names: &Names, members: &Vec<StructMemberNode>)
-    ensures { PrintsList out.old out.new (codes "members") (items_in spans names.now a_member (listed (placed member_view member_node) members_kind members.now).children) }
+fn print_members<S: Sink>(
+    out: &mut Printer<S>,
+    spans: bool,
+    names: &Names,
+    members: &Vec<StructMemberNode>,
+)
+    ensures { PrintsList S.after out.old out.new (codes "members") (items_in spans names.now a_member (listed (placed member_view member_node) members_kind members.now).children) }
 {
     if !members.is_empty() {
         out.key("members");
@@ -164,8 +182,13 @@ fn print_members(out: &mut Printer, spans: bool, names: &Names, members: &Vec<St
     }
 }
 
-fn print_each_member(out: &mut Printer, spans: bool, names: &Names, members: &Vec<StructMemberNode>)
-    ensures { Prints out.old out.new (array (items_in spans names.now a_member (listed (placed member_view member_node) members_kind members.now).children)) }
+fn print_each_member<S: Sink>(
+    out: &mut Printer<S>,
+    spans: bool,
+    names: &Names,
+    members: &Vec<StructMemberNode>,
+)
+    ensures { Prints S.after out.old out.new (array (items_in spans names.now a_member (listed (placed member_view member_node) members_kind members.now).children)) }
 {
     out.begin_list();
     for member in members {
@@ -174,8 +197,14 @@ fn print_each_member(out: &mut Printer, spans: bool, names: &Names, members: &Ve
     out.close_list();
 }
 
-fn print_member(out: &mut Printer, spans: bool, names: &Names, member: &StructMember, span: Span)
-    ensures { Prints out.old out.new (placed_at spans names.now a_member member_node span (member_view member.now)) }
+fn print_member<S: Sink>(
+    out: &mut Printer<S>,
+    spans: bool,
+    names: &Names,
+    member: &StructMember,
+    span: Span,
+)
+    ensures { Prints S.after out.old out.new (placed_at spans names.now a_member member_node span (member_view member.now)) }
 {
     out.begin();
     print_attributes(out, spans, names, "attrs", &member.attributes);
@@ -185,8 +214,14 @@ fn print_member(out: &mut Printer, spans: bool, names: &Names, member: &StructMe
     out.close();
 }
 
-fn print_function(out: &mut Printer, spans: bool, names: &Names, function: &Function, span: Span)
-    ensures { Prints out.old out.new (declaration_at spans names.now span (function_view function.now)) }
+fn print_function<S: Sink>(
+    out: &mut Printer<S>,
+    spans: bool,
+    names: &Names,
+    function: &Function,
+    span: Span,
+)
+    ensures { Prints S.after out.old out.new (declaration_at spans names.now span (function_view function.now)) }
 {
     out.begin();
     print_attributes(out, spans, names, "attrs", &function.attributes);
@@ -200,13 +235,13 @@ fn print_function(out: &mut Printer, spans: bool, names: &Names, function: &Func
     out.close();
 }
 
-fn print_parameters(
-    out: &mut Printer,
+fn print_parameters<S: Sink>(
+    out: &mut Printer<S>,
     spans: bool,
     names: &Names,
     parameters: &Vec<FormalParameter>,
 )
-    ensures { PrintsList out.old out.new (codes "params") (items_in spans names.now a_parameter (listed parameter_view parameters_kind parameters.now).children) }
+    ensures { PrintsList S.after out.old out.new (codes "params") (items_in spans names.now a_parameter (listed parameter_view parameters_kind parameters.now).children) }
 {
     if !parameters.is_empty() {
         out.key("params");
@@ -214,13 +249,13 @@ fn print_parameters(
     }
 }
 
-fn print_each_parameter(
-    out: &mut Printer,
+fn print_each_parameter<S: Sink>(
+    out: &mut Printer<S>,
     spans: bool,
     names: &Names,
     parameters: &Vec<FormalParameter>,
 )
-    ensures { Prints out.old out.new (array (items_in spans names.now a_parameter (listed parameter_view parameters_kind parameters.now).children)) }
+    ensures { Prints S.after out.old out.new (array (items_in spans names.now a_parameter (listed parameter_view parameters_kind parameters.now).children)) }
 {
     out.begin_list();
     for parameter in parameters {
@@ -229,8 +264,13 @@ fn print_each_parameter(
     out.close_list();
 }
 
-fn print_parameter(out: &mut Printer, spans: bool, names: &Names, parameter: &FormalParameter)
-    ensures { Prints out.old out.new (value_in spans names.now (node_form a_parameter) (parameter_view parameter.now)) }
+fn print_parameter<S: Sink>(
+    out: &mut Printer<S>,
+    spans: bool,
+    names: &Names,
+    parameter: &FormalParameter,
+)
+    ensures { Prints S.after out.old out.new (value_in spans names.now (node_form a_parameter) (parameter_view parameter.now)) }
 {
     out.begin();
     print_attributes(out, spans, names, "attrs", &parameter.attributes);
@@ -240,15 +280,15 @@ fn print_parameter(out: &mut Printer, spans: bool, names: &Names, parameter: &Fo
 }
 
 /// Prints an assertion, which is the same in a module and in a function.
-pub(crate) fn print_assertion(
-    out: &mut Printer,
+pub(crate) fn print_assertion<S: Sink>(
+    out: &mut Printer<S>,
     spans: bool,
     names: &Names,
     assertion: &ConstAssert,
     span: Span,
 )
-    ensures global { Prints out.old out.new (declaration_at spans names.now span (assert_view assertion.now)) }
-    ensures local { Prints out.old out.new (statement_at spans names.now span (assert_view assertion.now)) }
+    ensures global { Prints S.after out.old out.new (declaration_at spans names.now span (assert_view assertion.now)) }
+    ensures local { Prints S.after out.old out.new (statement_at spans names.now span (assert_view assertion.now)) }
 {
     out.begin();
     print_attributes(out, spans, names, "attrs", &assertion.attributes);

@@ -3,12 +3,13 @@ ghost use Rattle.std.specs.Prelude.{◌≡◌, [], ◌∷◌, codes};
 ghost use Rattle.serde_json.specs.Data.{array, boolean, no_members, string};
 ghost use Rattle.wesl_json_form.specs.Schema.{a_path, a_template_argument, a_type, an_expression, leaf, node as node_form};
 ghost use Rattle.wesl_json_print_nodes.specs.Printing.{Prints, PrintsList, PrintsMember, PrintsMembers, named_at, plain_type_tree};
-ghost use Rattle.wesl_json_write.specs.Values.{bare, call_members, expression_at, items_in, value_in, with_option};
+ghost use Rattle.wesl_json_words.specs.Values.{bare, call_members, expression_at, items_in, value_in, with_option};
 ghost use Rattle.wesl_tree_syntax.specs.Tree.{branch, list, literal as literal_kind};
 ghost use Rattle.wesl_tree_syntax.specs.View.{argument_view, boxed_path, call_view, expression_tree, expression_view, listed, literal_tree, optional, type_view};
 
 use crate::printer::Printer;
-use wesl_json_write::{binary_word, is_shown, spelling, truth_word, unary_word};
+use crate::sink::Sink;
+use wesl_json_words::{binary_word, is_shown, spelling, truth_word, unary_word};
 use wesl_tree_names::{Ident, ModulePath, Names, Span};
 use wesl_tree_syntax::{
     Expression, ExpressionNode, FunctionCall, Literal, TemplateArg, TypeExpression,
@@ -16,14 +17,14 @@ use wesl_tree_syntax::{
 
 /// Prints an expression.
 #[cycle(printing)]
-pub(crate) fn print_expression(
-    out: &mut Printer,
+pub(crate) fn print_expression<S: Sink>(
+    out: &mut Printer<S>,
     spans: bool,
     names: &Names,
     expression: &Expression,
     span: Span,
 )
-    ensures { Prints out.old out.new (expression_at spans names.now span (expression_view expression.now)) }
+    ensures { Prints S.after out.old out.new (expression_at spans names.now span (expression_view expression.now)) }
 {
     match expression {
         Expression::Literal(literal) => print_literal(out, spans, names, literal, span),
@@ -84,8 +85,14 @@ pub(crate) fn print_expression(
 }
 
 // Prints a literal.
-fn print_literal(out: &mut Printer, spans: bool, names: &Names, literal: &Literal, span: Span)
-    ensures { Prints out.old out.new (expression_at spans names.now span (branch literal_kind (literal_tree literal.now ∷ []))) }
+fn print_literal<S: Sink>(
+    out: &mut Printer<S>,
+    spans: bool,
+    names: &Names,
+    literal: &Literal,
+    span: Span,
+)
+    ensures { Prints S.after out.old out.new (expression_at spans names.now span (branch literal_kind (literal_tree literal.now ∷ []))) }
 {
     match literal {
         Literal::Bool(truth) => print_truth(out, spans, *truth, span),
@@ -100,8 +107,8 @@ fn print_literal(out: &mut Printer, spans: bool, names: &Names, literal: &Litera
 }
 
 // Prints a truth value, which is an object where it has a place.
-fn print_truth(out: &mut Printer, spans: bool, truth: bool, span: Span)
-    ensures { Prints out.old out.new (named_at spans span (boolean truth)) }
+fn print_truth<S: Sink>(out: &mut Printer<S>, spans: bool, truth: bool, span: Span)
+    ensures { Prints S.after out.old out.new (named_at spans span (boolean truth)) }
 {
     if is_shown(spans, span) {
         out.begin();
@@ -115,29 +122,29 @@ fn print_truth(out: &mut Printer, spans: bool, truth: bool, span: Span)
 
 /// Prints an expression at a key.
 #[cycle(printing)]
-pub(crate) fn print_expression_at(
-    out: &mut Printer,
+pub(crate) fn print_expression_at<S: Sink>(
+    out: &mut Printer<S>,
     spans: bool,
     names: &Names,
     key: &str,
     expression: &Expression,
     span: Span,
 )
-    ensures { PrintsMember out.old out.new key.now (expression_at spans names.now span (expression_view expression.now)) }
+    ensures { PrintsMember S.after out.old out.new key.now (expression_at spans names.now span (expression_view expression.now)) }
 {
     out.key(key);
     print_expression(out, spans, names, expression, span);
 }
 
 /// Prints an expression at a key, an option.
-pub(crate) fn print_optional_expression(
-    out: &mut Printer,
+pub(crate) fn print_optional_expression<S: Sink>(
+    out: &mut Printer<S>,
     spans: bool,
     names: &Names,
     key: &str,
     expression: &Option<ExpressionNode>,
 )
-    ensures { PrintsMembers out.old out.new (with_option key.now spans names.now (node_form an_expression) (optional expression_tree expression.now) no_members) }
+    ensures { PrintsMembers S.after out.old out.new (with_option key.now spans names.now (node_form an_expression) (optional expression_tree expression.now) no_members) }
 {
     match expression {
         Some(expression) => print_expression_at(
@@ -154,13 +161,13 @@ pub(crate) fn print_optional_expression(
 
 /// Prints the arguments of a call, unless there are none.
 #[cycle(printing)]
-pub(crate) fn print_arguments(
-    out: &mut Printer,
+pub(crate) fn print_arguments<S: Sink>(
+    out: &mut Printer<S>,
     spans: bool,
     names: &Names,
     nodes: &Vec<ExpressionNode>,
 )
-    ensures { PrintsList out.old out.new (codes "args") (items_in spans names.now an_expression (listed expression_tree list nodes.now).children) }
+    ensures { PrintsList S.after out.old out.new (codes "args") (items_in spans names.now an_expression (listed expression_tree list nodes.now).children) }
 {
     if !nodes.is_empty() {
         out.key("args");
@@ -170,13 +177,13 @@ pub(crate) fn print_arguments(
 
 /// Prints expressions as a list.
 #[cycle(printing)]
-pub(crate) fn print_expressions(
-    out: &mut Printer,
+pub(crate) fn print_expressions<S: Sink>(
+    out: &mut Printer<S>,
     spans: bool,
     names: &Names,
     nodes: &Vec<ExpressionNode>,
 )
-    ensures { Prints out.old out.new (array (items_in spans names.now an_expression (listed expression_tree list nodes.now).children)) }
+    ensures { Prints S.after out.old out.new (array (items_in spans names.now an_expression (listed expression_tree list nodes.now).children)) }
 {
     out.begin_list();
     for node in nodes {
@@ -186,8 +193,13 @@ pub(crate) fn print_expressions(
 }
 
 /// Prints the members of a call as an object at `call`.
-pub(crate) fn print_call(out: &mut Printer, spans: bool, names: &Names, call: &FunctionCall)
-    ensures { PrintsMember out.old out.new (codes "call") (bare (call_members spans names.now (call_view call.now))) }
+pub(crate) fn print_call<S: Sink>(
+    out: &mut Printer<S>,
+    spans: bool,
+    names: &Names,
+    call: &FunctionCall,
+)
+    ensures { PrintsMember S.after out.old out.new (codes "call") (bare (call_members spans names.now (call_view call.now))) }
 {
     out.key("call");
     out.begin();
@@ -198,8 +210,14 @@ pub(crate) fn print_call(out: &mut Printer, spans: bool, names: &Names, call: &F
 
 // Prints a type with a place, which only that of an expression has: its name, where it has no path, no arguments and no place.
 #[cycle(printing)]
-fn print_type(out: &mut Printer, spans: bool, names: &Names, ty: &TypeExpression, span: Span)
-    ensures { Prints out.old out.new (named_at spans span (value_in spans names.now (node_form a_type) (type_view ty.now))) }
+fn print_type<S: Sink>(
+    out: &mut Printer<S>,
+    spans: bool,
+    names: &Names,
+    ty: &TypeExpression,
+    span: Span,
+)
+    ensures { Prints S.after out.old out.new (named_at spans span (value_in spans names.now (node_form a_type) (type_view ty.now))) }
 {
     match &ty.template_args {
         None => print_plain_type(out, spans, names, &ty.path, ty.ident, span),
@@ -216,15 +234,15 @@ fn print_type(out: &mut Printer, spans: bool, names: &Names, ty: &TypeExpression
 }
 
 // Prints a type without arguments.
-fn print_plain_type(
-    out: &mut Printer,
+fn print_plain_type<S: Sink>(
+    out: &mut Printer<S>,
     spans: bool,
     names: &Names,
     path: &Option<Box<ModulePath>>,
     ident: Ident,
     span: Span,
 )
-    ensures { Prints out.old out.new (named_at spans span (value_in spans names.now (node_form a_type) (plain_type_tree path.now ident))) }
+    ensures { Prints S.after out.old out.new (named_at spans span (value_in spans names.now (node_form a_type) (plain_type_tree path.now ident))) }
 {
     let name = spelling(names, ident);
     match path {
@@ -241,8 +259,8 @@ fn print_plain_type(
 }
 
 // Prints a name, which is an object where it has a place.
-fn print_name(out: &mut Printer, spans: bool, name: &str, span: Span)
-    ensures { Prints out.old out.new (named_at spans span (string name.now)) }
+fn print_name<S: Sink>(out: &mut Printer<S>, spans: bool, name: &str, span: Span)
+    ensures { Prints S.after out.old out.new (named_at spans span (string name.now)) }
 {
     if is_shown(spans, span) {
         out.begin();
@@ -256,28 +274,28 @@ fn print_name(out: &mut Printer, spans: bool, name: &str, span: Span)
 
 /// Prints a type at a key.
 #[cycle(printing)]
-pub(crate) fn print_type_at(
-    out: &mut Printer,
+pub(crate) fn print_type_at<S: Sink>(
+    out: &mut Printer<S>,
     spans: bool,
     names: &Names,
     key: &str,
     ty: &TypeExpression,
 )
-    ensures { PrintsMember out.old out.new key.now (value_in spans names.now (node_form a_type) (type_view ty.now)) }
+    ensures { PrintsMember S.after out.old out.new key.now (value_in spans names.now (node_form a_type) (type_view ty.now)) }
 {
     out.key(key);
     print_type(out, spans, names, ty, Span { start: 0, end: 0 });
 }
 
 /// Prints a type at a key, an option.
-pub(crate) fn print_optional_type(
-    out: &mut Printer,
+pub(crate) fn print_optional_type<S: Sink>(
+    out: &mut Printer<S>,
     spans: bool,
     names: &Names,
     key: &str,
     ty: &Option<TypeExpression>,
 )
-    ensures { PrintsMembers out.old out.new (with_option key.now spans names.now (node_form a_type) (optional type_view ty.now) no_members) }
+    ensures { PrintsMembers S.after out.old out.new (with_option key.now spans names.now (node_form a_type) (optional type_view ty.now) no_members) }
 {
     match ty {
         Some(ty) => print_type_at(out, spans, names, key, ty),
@@ -286,13 +304,13 @@ pub(crate) fn print_optional_type(
 }
 
 // Prints the path of a type, an option.
-fn print_optional_path(
-    out: &mut Printer,
+fn print_optional_path<S: Sink>(
+    out: &mut Printer<S>,
     spans: bool,
     names: &Names,
     path: &Option<Box<ModulePath>>,
 )
-    ensures { PrintsMembers out.old out.new (with_option (codes "path") spans names.now (leaf a_path) (optional boxed_path path.now) no_members) }
+    ensures { PrintsMembers S.after out.old out.new (with_option (codes "path") spans names.now (leaf a_path) (optional boxed_path path.now) no_members) }
 {
     match path {
         Some(path) => {
@@ -305,8 +323,13 @@ fn print_optional_path(
 
 // Prints the arguments of a type as a list.
 #[cycle(printing)]
-fn print_type_arguments(out: &mut Printer, spans: bool, names: &Names, arguments: &Vec<TemplateArg>)
-    ensures { Prints out.old out.new (array (items_in spans names.now a_template_argument (listed argument_view list arguments.now).children)) }
+fn print_type_arguments<S: Sink>(
+    out: &mut Printer<S>,
+    spans: bool,
+    names: &Names,
+    arguments: &Vec<TemplateArg>,
+)
+    ensures { Prints S.after out.old out.new (array (items_in spans names.now a_template_argument (listed argument_view list arguments.now).children)) }
 {
     out.begin_list();
     for argument in arguments {

@@ -4,7 +4,7 @@ ghost use Rattle.std.specs.Box.{box_value};
 ghost use Rattle.serde_json.specs.Data.{array, no_members};
 ghost use Rattle.wesl_json_form.specs.Schema.{a_body, a_break_if, a_case, a_clause, a_continuing, a_statement, an_elif, an_else, node as node_form};
 ghost use Rattle.wesl_json_print_nodes.specs.Printing.{Prints, PrintsList, PrintsMember, PrintsMembers, at_place, called, returned, stepped};
-ghost use Rattle.wesl_json_write.specs.Values.{assigned, declaration_at, items_in, statement_at, value_in, with_attributes, with_option, worded};
+ghost use Rattle.wesl_json_words.specs.Values.{assigned, declaration_at, items_in, statement_at, value_in, with_attributes, with_option, worded};
 ghost use Rattle.wesl_tree_syntax.specs.Tree.{assignment, branch, clauses as clauses_kind, list, statement_node, statements as statements_kind, void};
 ghost use Rattle.wesl_tree_syntax.specs.View.{attributes_tree, break_if_view, call_view, clause_view, compound_view, continuing_view, else_if_view, else_view, expression_tree, listed, optional, selector_view, statement_tree, statement_view};
 
@@ -14,7 +14,8 @@ use crate::expression::{
     print_call, print_expression, print_expression_at, print_optional_expression,
 };
 use crate::printer::Printer;
-use wesl_json_write::assignment_word;
+use crate::sink::Sink;
+use wesl_json_words::assignment_word;
 use wesl_tree_names::{Names, Span};
 use wesl_tree_syntax::{
     AssignmentOperator, Attributes, BreakIfStatement, CaseSelector, CompoundStatement,
@@ -24,8 +25,14 @@ use wesl_tree_syntax::{
 
 /// Prints a statement.
 #[cycle(printing)]
-fn print_statement(out: &mut Printer, spans: bool, names: &Names, statement: &Statement, span: Span)
-    ensures { Prints out.old out.new (statement_at spans names.now span (statement_view statement.now)) }
+fn print_statement<S: Sink>(
+    out: &mut Printer<S>,
+    spans: bool,
+    names: &Names,
+    statement: &Statement,
+    span: Span,
+)
+    ensures { Prints S.after out.old out.new (statement_at spans names.now span (statement_view statement.now)) }
 {
     match statement {
         Statement::Void => print_void(out, spans, names, span),
@@ -156,9 +163,9 @@ fn print_statement(out: &mut Printer, spans: bool, names: &Names, statement: &St
 }
 
 /// Prints a void statement, which is also printed so as a declaration.
-pub(crate) fn print_void(out: &mut Printer, spans: bool, names: &Names, span: Span)
-    ensures global { Prints out.old out.new (declaration_at spans names.now span (branch void [])) }
-    ensures local { Prints out.old out.new (statement_at spans names.now span (branch void [])) }
+pub(crate) fn print_void<S: Sink>(out: &mut Printer<S>, spans: bool, names: &Names, span: Span)
+    ensures global { Prints S.after out.old out.new (declaration_at spans names.now span (branch void [])) }
+    ensures local { Prints S.after out.old out.new (statement_at spans names.now span (branch void [])) }
 {
     out.begin();
     out.text_at("k", "void");
@@ -166,8 +173,8 @@ pub(crate) fn print_void(out: &mut Printer, spans: bool, names: &Names, span: Sp
     out.close();
 }
 
-fn print_assignment(
-    out: &mut Printer,
+fn print_assignment<S: Sink>(
+    out: &mut Printer<S>,
     spans: bool,
     names: &Names,
     attributes: &Attributes,
@@ -176,7 +183,7 @@ fn print_assignment(
     rhs: &ExpressionNode,
     span: Span,
 )
-    ensures { Prints out.old out.new (at_place spans statement_node span (assigned spans names.now (assignment operator) (attributes_tree attributes.now).children lhs.now rhs.now)) }
+    ensures { Prints S.after out.old out.new (at_place spans statement_node span (assigned spans names.now (assignment operator) (attributes_tree attributes.now).children lhs.now rhs.now)) }
 {
     out.begin();
     print_attributes(out, spans, names, "attrs", attributes);
@@ -188,15 +195,15 @@ fn print_assignment(
     out.close();
 }
 
-fn print_return(
-    out: &mut Printer,
+fn print_return<S: Sink>(
+    out: &mut Printer<S>,
     spans: bool,
     names: &Names,
     attributes: &Attributes,
     expression: &Option<ExpressionNode>,
     span: Span,
 )
-    ensures { Prints out.old out.new (at_place spans statement_node span (returned spans names.now attributes.now (optional expression_tree expression.now))) }
+    ensures { Prints S.after out.old out.new (at_place spans statement_node span (returned spans names.now attributes.now (optional expression_tree expression.now))) }
 {
     out.begin();
     print_attributes(out, spans, names, "attrs", attributes);
@@ -206,15 +213,15 @@ fn print_return(
     out.close();
 }
 
-fn print_call_statement(
-    out: &mut Printer,
+fn print_call_statement<S: Sink>(
+    out: &mut Printer<S>,
     spans: bool,
     names: &Names,
     attributes: &Attributes,
     call: &FunctionCall,
     span: Span,
 )
-    ensures { Prints out.old out.new (at_place spans statement_node span (called spans names.now attributes.now (call_view call.now))) }
+    ensures { Prints S.after out.old out.new (at_place spans statement_node span (called spans names.now attributes.now (call_view call.now))) }
 {
     out.begin();
     print_attributes(out, spans, names, "attrs", attributes);
@@ -225,8 +232,8 @@ fn print_call_statement(
 }
 
 // Prints an increment or a decrement.
-fn print_step(
-    out: &mut Printer,
+fn print_step<S: Sink>(
+    out: &mut Printer<S>,
     spans: bool,
     names: &Names,
     word: &str,
@@ -234,7 +241,7 @@ fn print_step(
     expression: &ExpressionNode,
     span: Span,
 )
-    ensures { Prints out.old out.new (at_place spans statement_node span (stepped spans names.now word.now attributes.now expression.now)) }
+    ensures { Prints S.after out.old out.new (at_place spans statement_node span (stepped spans names.now word.now attributes.now expression.now)) }
 {
     out.begin();
     print_attributes(out, spans, names, "attrs", attributes);
@@ -245,15 +252,15 @@ fn print_step(
 }
 
 // Prints a statement that is a word alone.
-fn print_jump(
-    out: &mut Printer,
+fn print_jump<S: Sink>(
+    out: &mut Printer<S>,
     spans: bool,
     names: &Names,
     word: &str,
     attributes: &Attributes,
     span: Span,
 )
-    ensures { Prints out.old out.new (at_place spans statement_node span (worded word.now (with_attributes spans names.now attributes.now no_members))) }
+    ensures { Prints S.after out.old out.new (at_place spans statement_node span (worded word.now (with_attributes spans names.now attributes.now no_members))) }
 {
     out.begin();
     print_attributes(out, spans, names, "attrs", attributes);
@@ -264,8 +271,13 @@ fn print_jump(
 
 /// Prints a body at `body`.
 #[cycle(printing)]
-pub(crate) fn print_body_at(out: &mut Printer, spans: bool, names: &Names, body: &CompoundStatement)
-    ensures { PrintsMember out.old out.new (codes "body") (value_in spans names.now (node_form a_body) (compound_view body.now)) }
+pub(crate) fn print_body_at<S: Sink>(
+    out: &mut Printer<S>,
+    spans: bool,
+    names: &Names,
+    body: &CompoundStatement,
+)
+    ensures { PrintsMember S.after out.old out.new (codes "body") (value_in spans names.now (node_form a_body) (compound_view body.now)) }
 {
     out.key("body");
     out.begin();
@@ -276,8 +288,13 @@ pub(crate) fn print_body_at(out: &mut Printer, spans: bool, names: &Names, body:
 
 // Prints the statements of a body, unless there are none.
 #[cycle(printing)]
-fn print_statements(out: &mut Printer, spans: bool, names: &Names, nodes: &Vec<StatementNode>)
-    ensures { PrintsList out.old out.new (codes "stmts") (items_in spans names.now a_statement (listed statement_tree statements_kind nodes.now).children) }
+fn print_statements<S: Sink>(
+    out: &mut Printer<S>,
+    spans: bool,
+    names: &Names,
+    nodes: &Vec<StatementNode>,
+)
+    ensures { PrintsList S.after out.old out.new (codes "stmts") (items_in spans names.now a_statement (listed statement_tree statements_kind nodes.now).children) }
 {
     if !nodes.is_empty() {
         out.key("stmts");
@@ -286,8 +303,13 @@ fn print_statements(out: &mut Printer, spans: bool, names: &Names, nodes: &Vec<S
 }
 
 #[cycle(printing)]
-fn print_each_statement(out: &mut Printer, spans: bool, names: &Names, nodes: &Vec<StatementNode>)
-    ensures { Prints out.old out.new (array (items_in spans names.now a_statement (listed statement_tree statements_kind nodes.now).children)) }
+fn print_each_statement<S: Sink>(
+    out: &mut Printer<S>,
+    spans: bool,
+    names: &Names,
+    nodes: &Vec<StatementNode>,
+)
+    ensures { Prints S.after out.old out.new (array (items_in spans names.now a_statement (listed statement_tree statements_kind nodes.now).children)) }
 {
     out.begin_list();
     for node in nodes {
@@ -297,8 +319,13 @@ fn print_each_statement(out: &mut Printer, spans: bool, names: &Names, nodes: &V
 }
 
 #[cycle(printing)]
-fn print_elifs(out: &mut Printer, spans: bool, names: &Names, clauses: &Vec<ElseIfClause>)
-    ensures { PrintsList out.old out.new (codes "elifs") (items_in spans names.now an_elif (listed else_if_view list clauses.now).children) }
+fn print_elifs<S: Sink>(
+    out: &mut Printer<S>,
+    spans: bool,
+    names: &Names,
+    clauses: &Vec<ElseIfClause>,
+)
+    ensures { PrintsList S.after out.old out.new (codes "elifs") (items_in spans names.now an_elif (listed else_if_view list clauses.now).children) }
 {
     if !clauses.is_empty() {
         out.key("elifs");
@@ -307,8 +334,13 @@ fn print_elifs(out: &mut Printer, spans: bool, names: &Names, clauses: &Vec<Else
 }
 
 #[cycle(printing)]
-fn print_each_elif(out: &mut Printer, spans: bool, names: &Names, clauses: &Vec<ElseIfClause>)
-    ensures { Prints out.old out.new (array (items_in spans names.now an_elif (listed else_if_view list clauses.now).children)) }
+fn print_each_elif<S: Sink>(
+    out: &mut Printer<S>,
+    spans: bool,
+    names: &Names,
+    clauses: &Vec<ElseIfClause>,
+)
+    ensures { Prints S.after out.old out.new (array (items_in spans names.now an_elif (listed else_if_view list clauses.now).children)) }
 {
     out.begin_list();
     for clause in clauses {
@@ -318,8 +350,8 @@ fn print_each_elif(out: &mut Printer, spans: bool, names: &Names, clauses: &Vec<
 }
 
 #[cycle(printing)]
-fn print_elif(out: &mut Printer, spans: bool, names: &Names, clause: &ElseIfClause)
-    ensures { Prints out.old out.new (value_in spans names.now (node_form an_elif) (else_if_view clause.now)) }
+fn print_elif<S: Sink>(out: &mut Printer<S>, spans: bool, names: &Names, clause: &ElseIfClause)
+    ensures { Prints S.after out.old out.new (value_in spans names.now (node_form an_elif) (else_if_view clause.now)) }
 {
     out.begin();
     print_attributes(out, spans, names, "attrs", &clause.attributes);
@@ -336,8 +368,13 @@ fn print_elif(out: &mut Printer, spans: bool, names: &Names, clause: &ElseIfClau
 }
 
 #[cycle(printing)]
-fn print_optional_else(out: &mut Printer, spans: bool, names: &Names, clause: &Option<ElseClause>)
-    ensures { PrintsMembers out.old out.new (with_option (codes "else") spans names.now (node_form an_else) (optional else_view clause.now) no_members) }
+fn print_optional_else<S: Sink>(
+    out: &mut Printer<S>,
+    spans: bool,
+    names: &Names,
+    clause: &Option<ElseClause>,
+)
+    ensures { PrintsMembers S.after out.old out.new (with_option (codes "else") spans names.now (node_form an_else) (optional else_view clause.now) no_members) }
 {
     match clause {
         Some(clause) => {
@@ -349,8 +386,8 @@ fn print_optional_else(out: &mut Printer, spans: bool, names: &Names, clause: &O
 }
 
 #[cycle(printing)]
-fn print_else(out: &mut Printer, spans: bool, names: &Names, clause: &ElseClause)
-    ensures { Prints out.old out.new (value_in spans names.now (node_form an_else) (else_view clause.now)) }
+fn print_else<S: Sink>(out: &mut Printer<S>, spans: bool, names: &Names, clause: &ElseClause)
+    ensures { Prints S.after out.old out.new (value_in spans names.now (node_form an_else) (else_view clause.now)) }
 {
     out.begin();
     print_attributes(out, spans, names, "attrs", &clause.attributes);
@@ -359,8 +396,13 @@ fn print_else(out: &mut Printer, spans: bool, names: &Names, clause: &ElseClause
 }
 
 #[cycle(printing)]
-fn print_clauses(out: &mut Printer, spans: bool, names: &Names, clauses: &Vec<SwitchClause>)
-    ensures { PrintsList out.old out.new (codes "clauses") (items_in spans names.now a_clause (listed clause_view clauses_kind clauses.now).children) }
+fn print_clauses<S: Sink>(
+    out: &mut Printer<S>,
+    spans: bool,
+    names: &Names,
+    clauses: &Vec<SwitchClause>,
+)
+    ensures { PrintsList S.after out.old out.new (codes "clauses") (items_in spans names.now a_clause (listed clause_view clauses_kind clauses.now).children) }
 {
     if !clauses.is_empty() {
         out.key("clauses");
@@ -369,8 +411,13 @@ fn print_clauses(out: &mut Printer, spans: bool, names: &Names, clauses: &Vec<Sw
 }
 
 #[cycle(printing)]
-fn print_each_clause(out: &mut Printer, spans: bool, names: &Names, clauses: &Vec<SwitchClause>)
-    ensures { Prints out.old out.new (array (items_in spans names.now a_clause (listed clause_view clauses_kind clauses.now).children)) }
+fn print_each_clause<S: Sink>(
+    out: &mut Printer<S>,
+    spans: bool,
+    names: &Names,
+    clauses: &Vec<SwitchClause>,
+)
+    ensures { Prints S.after out.old out.new (array (items_in spans names.now a_clause (listed clause_view clauses_kind clauses.now).children)) }
 {
     out.begin_list();
     for clause in clauses {
@@ -380,8 +427,8 @@ fn print_each_clause(out: &mut Printer, spans: bool, names: &Names, clauses: &Ve
 }
 
 #[cycle(printing)]
-fn print_clause(out: &mut Printer, spans: bool, names: &Names, clause: &SwitchClause)
-    ensures { Prints out.old out.new (value_in spans names.now (node_form a_clause) (clause_view clause.now)) }
+fn print_clause<S: Sink>(out: &mut Printer<S>, spans: bool, names: &Names, clause: &SwitchClause)
+    ensures { Prints S.after out.old out.new (value_in spans names.now (node_form a_clause) (clause_view clause.now)) }
 {
     out.begin();
     print_attributes(out, spans, names, "attrs", &clause.attributes);
@@ -390,8 +437,13 @@ fn print_clause(out: &mut Printer, spans: bool, names: &Names, clause: &SwitchCl
     out.close();
 }
 
-fn print_cases(out: &mut Printer, spans: bool, names: &Names, selectors: &Vec<CaseSelector>)
-    ensures { PrintsList out.old out.new (codes "cases") (items_in spans names.now a_case (listed selector_view list selectors.now).children) }
+fn print_cases<S: Sink>(
+    out: &mut Printer<S>,
+    spans: bool,
+    names: &Names,
+    selectors: &Vec<CaseSelector>,
+)
+    ensures { PrintsList S.after out.old out.new (codes "cases") (items_in spans names.now a_case (listed selector_view list selectors.now).children) }
 {
     if !selectors.is_empty() {
         out.key("cases");
@@ -399,8 +451,13 @@ fn print_cases(out: &mut Printer, spans: bool, names: &Names, selectors: &Vec<Ca
     }
 }
 
-fn print_each_case(out: &mut Printer, spans: bool, names: &Names, selectors: &Vec<CaseSelector>)
-    ensures { Prints out.old out.new (array (items_in spans names.now a_case (listed selector_view list selectors.now).children)) }
+fn print_each_case<S: Sink>(
+    out: &mut Printer<S>,
+    spans: bool,
+    names: &Names,
+    selectors: &Vec<CaseSelector>,
+)
+    ensures { Prints S.after out.old out.new (array (items_in spans names.now a_case (listed selector_view list selectors.now).children)) }
 {
     out.begin_list();
     for selector in selectors {
@@ -409,8 +466,8 @@ fn print_each_case(out: &mut Printer, spans: bool, names: &Names, selectors: &Ve
     out.close_list();
 }
 
-fn print_case(out: &mut Printer, spans: bool, names: &Names, selector: &CaseSelector)
-    ensures { Prints out.old out.new (value_in spans names.now (node_form a_case) (selector_view selector.now)) }
+fn print_case<S: Sink>(out: &mut Printer<S>, spans: bool, names: &Names, selector: &CaseSelector)
+    ensures { Prints S.after out.old out.new (value_in spans names.now (node_form a_case) (selector_view selector.now)) }
 {
     match selector {
         CaseSelector::Default => {
@@ -425,13 +482,13 @@ fn print_case(out: &mut Printer, spans: bool, names: &Names, selector: &CaseSele
 }
 
 #[cycle(printing)]
-fn print_optional_continuing(
-    out: &mut Printer,
+fn print_optional_continuing<S: Sink>(
+    out: &mut Printer<S>,
     spans: bool,
     names: &Names,
     continuing: &Option<ContinuingStatement>,
 )
-    ensures { PrintsMembers out.old out.new (with_option (codes "continuing") spans names.now (node_form a_continuing) (optional continuing_view continuing.now) no_members) }
+    ensures { PrintsMembers S.after out.old out.new (with_option (codes "continuing") spans names.now (node_form a_continuing) (optional continuing_view continuing.now) no_members) }
 {
     match continuing {
         Some(continuing) => {
@@ -443,8 +500,13 @@ fn print_optional_continuing(
 }
 
 #[cycle(printing)]
-fn print_continuing(out: &mut Printer, spans: bool, names: &Names, continuing: &ContinuingStatement)
-    ensures { Prints out.old out.new (value_in spans names.now (node_form a_continuing) (continuing_view continuing.now)) }
+fn print_continuing<S: Sink>(
+    out: &mut Printer<S>,
+    spans: bool,
+    names: &Names,
+    continuing: &ContinuingStatement,
+)
+    ensures { Prints S.after out.old out.new (value_in spans names.now (node_form a_continuing) (continuing_view continuing.now)) }
 {
     out.begin();
     print_attributes(out, spans, names, "attrs", &continuing.attributes);
@@ -453,13 +515,13 @@ fn print_continuing(out: &mut Printer, spans: bool, names: &Names, continuing: &
     out.close();
 }
 
-fn print_optional_break_if(
-    out: &mut Printer,
+fn print_optional_break_if<S: Sink>(
+    out: &mut Printer<S>,
     spans: bool,
     names: &Names,
     break_if: &Option<BreakIfStatement>,
 )
-    ensures { PrintsMembers out.old out.new (with_option (codes "break_if") spans names.now (node_form a_break_if) (optional break_if_view break_if.now) no_members) }
+    ensures { PrintsMembers S.after out.old out.new (with_option (codes "break_if") spans names.now (node_form a_break_if) (optional break_if_view break_if.now) no_members) }
 {
     match break_if {
         Some(break_if) => {
@@ -470,8 +532,13 @@ fn print_optional_break_if(
     }
 }
 
-fn print_break_if(out: &mut Printer, spans: bool, names: &Names, break_if: &BreakIfStatement)
-    ensures { Prints out.old out.new (value_in spans names.now (node_form a_break_if) (break_if_view break_if.now)) }
+fn print_break_if<S: Sink>(
+    out: &mut Printer<S>,
+    spans: bool,
+    names: &Names,
+    break_if: &BreakIfStatement,
+)
+    ensures { Prints S.after out.old out.new (value_in spans names.now (node_form a_break_if) (break_if_view break_if.now)) }
 {
     out.begin();
     print_attributes(out, spans, names, "attrs", &break_if.attributes);
@@ -487,14 +554,14 @@ fn print_break_if(out: &mut Printer, spans: bool, names: &Names, break_if: &Brea
 }
 
 #[cycle(printing)]
-fn print_optional_statement(
-    out: &mut Printer,
+fn print_optional_statement<S: Sink>(
+    out: &mut Printer<S>,
     spans: bool,
     names: &Names,
     key: &str,
     statement: &Option<Box<StatementNode>>,
 )
-    ensures { PrintsMembers out.old out.new (with_option key.now spans names.now (node_form a_statement) (optional (λ s. statement_tree (box_value s)) statement.now) no_members) }
+    ensures { PrintsMembers S.after out.old out.new (with_option key.now spans names.now (node_form a_statement) (optional (λ s. statement_tree (box_value s)) statement.now) no_members) }
 {
     match statement {
         Some(statement) => {

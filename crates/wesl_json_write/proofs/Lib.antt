@@ -1,11 +1,3 @@
-pub mod Lists
-pub mod Objects
-pub mod Expressions
-pub mod Turned
-pub mod Within
-pub mod Placed
-pub mod PlacedShort
-pub mod Declarations
-pub mod Statements
-pub mod Blocks
-pub mod Imports
+pub mod Builder
+pub mod Built
+pub mod Ended

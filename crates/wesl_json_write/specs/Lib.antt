@@ -1,3 +1,2 @@
-pub mod Values
-pub mod Objects
-pub mod Additions
+pub mod Building
+pub mod Holds

@@ -1,10 +1,11 @@
 use Rattle.wesl_tree_syntax.specs.Tree.{attribute_node}
-use Rattle.wesl_json_print_nodes.proofs.Adding.{then}
+use Rattle.wesl_json_print_nodes.proofs.Adding.{lawful, then}
 use Rattle.wesl_json_print_nodes.proofs.Parts.{span_added}
 use Rattle.wesl_json_print_nodes.proofs.Attributes.{interpolate_printed}
 use Rattle.wesl_json_print_nodes.proofs.attribute.print_interpolate.Goals as goal
 
 pub returns : goal.returns
-returns c =
-    let steps = then c.begin.ensures (then c.text_at.ensures (then c.print_names.ensures (then (span_added c.args.spans attribute_node c.args.span (c.span.ensures attribute_node)) c.close.ensures))) in
+returns g c =
+    let l = lawful g.met.S.Sink.none g.met.S.Sink.more in
+    let steps = then l c.begin.ensures (then l c.text_at.ensures (then l c.print_names.ensures (then l (span_added c.args.spans attribute_node c.args.span (c.span.ensures attribute_node)) c.close.ensures))) in
     interpolate_printed c.args.spans c.args.span _ steps

@@ -1,3 +1,4 @@
+use Rattle.wesl_json_print_nodes.proofs.Adding.{lawful}
 use Rattle.std.proofs.Common.{codes, rules}
 use Rattle.std.proofs.lemmas.Grind.{common_steps}
 use Rattle.wesl_tree_syntax.specs.Tree.{declaration_node}
@@ -7,7 +8,11 @@ use Rattle.wesl_json_print_nodes.proofs.Lists.{no_nodes, some_nodes}
 use Rattle.wesl_json_print_nodes.proofs.declaration.print_declarations.Goals as goal
 
 pub returns-then-not-is_empty : goal.returns-then-not-is_empty
-returns-then-not-is_empty c = some_nodes c.args.spans c.args.names.now a_declaration (placed global_view declaration_node) c.args.declarations.now.items (codes "declarations") (search (rules, common_steps)) c.key.ensures c.print_each.ensures
+returns-then-not-is_empty g c =
+    let l = lawful g.met.S.Sink.none g.met.S.Sink.more in
+    some_nodes c.args.spans c.args.names.now a_declaration (placed global_view declaration_node) l c.args.declarations.now.items (codes "declarations") (search (rules, common_steps)) c.key.ensures c.print_each.ensures
 
 pub returns-else-not-is_empty : goal.returns-else-not-is_empty
-returns-else-not-is_empty c = no_nodes c.args.spans c.args.names.now a_declaration (placed global_view declaration_node) c.args.declarations.now.items (codes "declarations") c.args.out.now (search (rules, common_steps))
+returns-else-not-is_empty g c =
+    let l = lawful g.met.S.Sink.none g.met.S.Sink.more in
+    no_nodes c.args.spans c.args.names.now a_declaration (placed global_view declaration_node) c.args.declarations.now.items (codes "declarations") l c.args.out.now (search (rules, common_steps))

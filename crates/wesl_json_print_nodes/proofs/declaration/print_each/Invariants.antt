@@ -5,4 +5,4 @@ use Rattle.wesl_json_print_nodes.proofs.Lists.{AreNodesBefore}
 use Rattle.wesl_json_print_nodes.proofs.declaration.print_each.Given as goal
 
 abbrev pub invariant-loop-declaration : goal.invariant-loop-declaration
-invariant-loop-declaration l = AreNodesBefore l.spans l.names a_declaration (placed global_view declaration_node) l.declaration-items l.initial.out l.out l.declaration-index
+invariant-loop-declaration g l = AreNodesBefore l.spans l.names a_declaration (placed global_view declaration_node) g.S.Sink.after l.declaration-items l.initial.out l.out l.declaration-index

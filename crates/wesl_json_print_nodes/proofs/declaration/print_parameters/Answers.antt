@@ -1,3 +1,4 @@
+use Rattle.wesl_json_print_nodes.proofs.Adding.{lawful}
 use Rattle.std.proofs.Common.{codes, rules}
 use Rattle.std.proofs.lemmas.Grind.{common_steps}
 use Rattle.wesl_tree_syntax.specs.View.{parameter_view}
@@ -6,7 +7,11 @@ use Rattle.wesl_json_print_nodes.proofs.Lists.{no_nodes, some_nodes}
 use Rattle.wesl_json_print_nodes.proofs.declaration.print_parameters.Goals as goal
 
 pub returns-then-not-is_empty : goal.returns-then-not-is_empty
-returns-then-not-is_empty c = some_nodes c.args.spans c.args.names.now a_parameter parameter_view c.args.parameters.now.items (codes "params") (search (rules, common_steps)) c.key.ensures c.print_each_parameter.ensures
+returns-then-not-is_empty g c =
+    let l = lawful g.met.S.Sink.none g.met.S.Sink.more in
+    some_nodes c.args.spans c.args.names.now a_parameter parameter_view l c.args.parameters.now.items (codes "params") (search (rules, common_steps)) c.key.ensures c.print_each_parameter.ensures
 
 pub returns-else-not-is_empty : goal.returns-else-not-is_empty
-returns-else-not-is_empty c = no_nodes c.args.spans c.args.names.now a_parameter parameter_view c.args.parameters.now.items (codes "params") c.args.out.now (search (rules, common_steps))
+returns-else-not-is_empty g c =
+    let l = lawful g.met.S.Sink.none g.met.S.Sink.more in
+    no_nodes c.args.spans c.args.names.now a_parameter parameter_view c.args.parameters.now.items (codes "params") l c.args.out.now (search (rules, common_steps))

@@ -1,15 +1,16 @@
 use Rattle.serde_json.specs.Data.{boolean}
 use Rattle.std.proofs.Common.{sym, ◌∙◌}
 use Rattle.wesl_tree_syntax.specs.Tree.{expression_node}
-use Rattle.wesl_json_print_nodes.proofs.Adding.{then}
+use Rattle.wesl_json_print_nodes.proofs.Adding.{lawful, then}
 use Rattle.wesl_json_print_nodes.proofs.Parts.{span_added}
 use Rattle.wesl_json_print_nodes.proofs.Expressions.{placed_truth, unplaced}
 use Rattle.wesl_json_print_nodes.proofs.expression.print_truth.Goals as goal
 
 pub returns-then-is_shown : goal.returns-then-is_shown
-returns-then-is_shown c =
-    let steps = then c.begin.ensures (then c.text_at.ensures (then (span_added c.args.spans expression_node c.args.span (c.span.ensures expression_node)) c.close.ensures)) in
+returns-then-is_shown g c =
+    let l = lawful g.met.S.Sink.none g.met.S.Sink.more in
+    let steps = then l c.begin.ensures (then l c.text_at.ensures (then l (span_added c.args.spans expression_node c.args.span (c.span.ensures expression_node)) c.close.ensures)) in
     placed_truth c.args.spans c.args.span c.args.truth _ c.truth_word.ensures (sym (c.is_shown.ensures expression_node) ∙ c.if-is_shown.true) steps
 
 pub returns-else-is_shown : goal.returns-else-is_shown
-returns-else-is_shown c = unplaced c.args.spans c.args.span (boolean c.args.truth) (sym (c.is_shown.ensures expression_node) ∙ c.if-is_shown.false) c.truth.ensures
+returns-else-is_shown g c = unplaced c.args.spans c.args.span (boolean c.args.truth) (sym (c.is_shown.ensures expression_node) ∙ c.if-is_shown.false) c.truth.ensures

@@ -1,5 +1,5 @@
-use Rattle.wesl_json_print_nodes.proofs.Adding.{token}
+use Rattle.wesl_json_print_nodes.proofs.Adding.{step}
 use Rattle.wesl_json_print_nodes.proofs.printer.Printer.close_list.Goals as goal
 
 pub returns : goal.returns
-returns c = token c.end_array-done.result c.end_array-done.ensures c.note.ensures.out c.note.ensures.done c.note.ensures.noted
+returns g c = step c.close_list.ensures

@@ -1,8 +1,0 @@
-use Rattle.wesl_tree_syntax.specs.Tree.{declaration_node}
-use Rattle.wesl_tree_syntax.specs.View.{global_view, placed}
-use Rattle.wesl_json_form.specs.Schema.{a_declaration}
-use Rattle.wesl_json_write.proofs.Lists.{AreItems}
-use Rattle.wesl_json_write.proofs.declaration.global_values.Given as goal
-
-abbrev pub invariant-loop-declaration : goal.invariant-loop-declaration
-invariant-loop-declaration l = AreItems l.spans l.names a_declaration (placed global_view declaration_node) l.declaration-items l.declaration-index l.values

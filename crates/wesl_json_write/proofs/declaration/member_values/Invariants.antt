@@ -1,8 +1,0 @@
-use Rattle.wesl_tree_syntax.specs.Tree.{member_node}
-use Rattle.wesl_tree_syntax.specs.View.{member_view, placed}
-use Rattle.wesl_json_form.specs.Schema.{a_member}
-use Rattle.wesl_json_write.proofs.Lists.{AreItems}
-use Rattle.wesl_json_write.proofs.declaration.member_values.Given as goal
-
-abbrev pub invariant-loop-member : goal.invariant-loop-member
-invariant-loop-member l = AreItems l.spans l.names a_member (placed member_view member_node) l.member-items l.member-index l.values
