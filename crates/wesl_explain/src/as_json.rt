@@ -1,21 +1,25 @@
 //! An explanation as one JSON object (docs/schema/explanation.json).
 
+use crate::chains::{chain_of, loaded_in};
+use crate::faults_json::write_faults;
 use json::{Token, Writer};
-use serde_json::{Value, put};
 use std::alloc::{AllocError, Global};
 use wesl_explain_world::{
-    Cure, Explanation, Fault, FreeName, HeldDeclaration, LoadedModule, Meaning, NameClash, NameId,
-    Node, PathId, Read, UnusedImport,
+    Cure, Explanation, FreeName, HeldDeclaration, Meaning, NameClash, NameId, Node, PathId, Read,
+    UnusedImport,
 };
 
+// How many steps of a chain are written at most.
+const LONGEST: usize = 32;
+
 /// Writes a member that is a text.
-fn write_text(out: &mut Writer, key: &str, text: &str) -> Result<(), AllocError> {
+pub fn write_text(out: &mut Writer, key: &str, text: &str) -> Result<(), AllocError> {
     out.key(key)?;
     out.string(text)
 }
 
 /// Writes a declaration of a module.
-fn write_symbol(
+pub fn write_symbol(
     out: &mut Writer,
     told: &Explanation,
     path: PathId,
@@ -28,7 +32,7 @@ fn write_symbol(
 }
 
 /// Writes an object of one member.
-fn write_alone(out: &mut Writer, key: &str, text: &str) -> Result<(), AllocError> {
+pub fn write_alone(out: &mut Writer, key: &str, text: &str) -> Result<(), AllocError> {
     out.begin_object()?;
     write_text(out, key, text)?;
     out.end_object()
@@ -47,35 +51,67 @@ fn write_node(
     }
 }
 
-fn write_chain(
+/// Writes steps of a chain.
+fn write_nodes(
+    out: &mut Writer,
+    told: &Explanation,
+    nodes: &[Node<PathId, NameId>],
+) -> Result<(), AllocError> {
+    for node in nodes {
+        write_node(out, told, *node)?;
+    }
+    Ok(())
+}
+
+/// Writes a chain, without its middle where it is long.
+pub fn write_chain(
     out: &mut Writer,
     told: &Explanation,
     chain: &[Node<PathId, NameId>],
 ) -> Result<(), AllocError> {
     out.key("chain")?;
     out.begin_array()?;
-    for node in chain {
-        write_node(out, told, *node)?;
+    match chain.len().checked_sub(LONGEST) {
+        Some(left_out) if left_out > 0 => {
+            write_nodes(out, told, &chain[..LONGEST / 2])?;
+            write_nodes(out, told, &chain[chain.len() - LONGEST / 2..])?;
+        }
+        _ => write_nodes(out, told, chain)?,
     }
     out.end_array()
 }
 
+/// Writes how many steps of a chain are left out, where some are.
+pub fn write_left_out(out: &mut Writer, chain: &[Node<PathId, NameId>]) -> Result<(), AllocError> {
+    match chain.len().checked_sub(LONGEST) {
+        Some(left_out) if left_out > 0 => {
+            out.key("left_out")?;
+            out.u64(left_out as u64)
+        }
+        _ => Ok(()),
+    }
+}
+
+/// Writes a module that was loaded.
 fn write_module(
     out: &mut Writer,
     told: &Explanation,
-    module: &LoadedModule,
+    path: PathId,
+    chain: &[Node<PathId, NameId>],
 ) -> Result<(), AllocError> {
     out.begin_object()?;
-    write_chain(out, told, &module.chain)?;
-    write_text(out, "path", told.path(module.path))?;
+    write_chain(out, told, chain)?;
+    write_left_out(out, chain)?;
+    write_text(out, "path", told.path(path))?;
     out.end_object()
 }
 
-fn write_modules(out: &mut Writer, told: &Explanation) -> Result<(), AllocError> {
+fn write_modules(out: &mut Writer, alloc: Global, told: &Explanation) -> Result<(), AllocError> {
     out.key("modules")?;
     out.begin_array()?;
-    for module in &told.modules {
-        write_module(out, told, module)?;
+    for path in loaded_in(told) {
+        let chain = chain_of(alloc, told, *path, None)?;
+        write_module(out, told, *path, &chain)?;
     }
     out.end_array()
 }
@@ -83,11 +119,14 @@ fn write_modules(out: &mut Writer, told: &Explanation) -> Result<(), AllocError>
 /// Writes a held declaration: a const_assert has no name.
 fn write_declaration(
     out: &mut Writer,
+    alloc: Global,
     told: &Explanation,
     declaration: &HeldDeclaration,
 ) -> Result<(), AllocError> {
+    let chain = chain_of(alloc, told, declaration.path, declaration.name)?;
     out.begin_object()?;
-    write_chain(out, told, &declaration.chain)?;
+    write_chain(out, told, &chain)?;
+    write_left_out(out, &chain)?;
     write_text(out, "module", told.path(declaration.path))?;
     if let Some(name) = declaration.name {
         write_text(out, "name", told.name(name))?;
@@ -96,11 +135,11 @@ fn write_declaration(
     out.end_object()
 }
 
-fn write_held(out: &mut Writer, told: &Explanation) -> Result<(), AllocError> {
+fn write_held(out: &mut Writer, alloc: Global, told: &Explanation) -> Result<(), AllocError> {
     out.key("held")?;
     out.begin_array()?;
     for declaration in &told.held {
-        write_declaration(out, told, declaration)?;
+        write_declaration(out, alloc, told, declaration)?;
     }
     out.end_array()
 }
@@ -221,53 +260,23 @@ fn write_unused(out: &mut Writer, told: &Explanation) -> Result<(), AllocError> 
     out.end_array()
 }
 
-/// A fault as its line has it, with its text.
-fn fault_value(alloc: Global, fault: &Fault) -> Result<Value, AllocError> {
-    match fault.value.clone()? {
-        Value::Object(mut members) => {
-            let text = Value::try_from_str(alloc, fault.text.as_str())?;
-            put(&mut members, alloc, "text", text)?;
-            Ok(Value::Object(members))
-        }
-        other => Ok(other),
-    }
-}
-
-fn faults_value(alloc: Global, faults: &[Fault]) -> Result<Value, AllocError> {
-    let mut list = Vec::with_capacity(alloc, faults.len())?;
-    for fault in faults {
-        list.push(fault_value(alloc, fault)?)?;
-    }
-    Ok(Value::Array(list))
-}
-
-/// The members before the faults, and the key of these.
-fn head(alloc: Global, told: &Explanation) -> Result<Vec<u8>, AllocError> {
-    let mut out = Writer::new(Vec::new(alloc));
+/// Writes the members, in the order of their keys.
+fn write_all(out: &mut Writer, alloc: Global, told: &Explanation) -> Result<(), AllocError> {
     out.begin_object()?;
-    write_clashes(&mut out, told)?;
-    out.key("faults")?;
-    Ok(out.into_inner())
-}
-
-/// Adds the members after the faults.
-fn with_tail(head: Vec<u8>, told: &Explanation) -> Result<Vec<u8>, AllocError> {
-    let mut out = Writer::new(head);
-    write_free(&mut out, told)?;
-    write_held(&mut out, told)?;
-    write_modules(&mut out, told)?;
-    write_unused(&mut out, told)?;
-    out.end_object()?;
-    Ok(out.into_inner())
+    write_clashes(out, told)?;
+    write_faults(out, alloc, told)?;
+    write_free(out, told)?;
+    write_held(out, alloc, told)?;
+    write_modules(out, alloc, told)?;
+    write_unused(out, told)?;
+    out.end_object()
 }
 
 /// The explanation as compact JSON on a line, its keys in the order of their bytes.
 pub fn json_of(alloc: Global, told: &Explanation) -> Result<String, AllocError> {
-    let faults = faults_value(alloc, &told.faults)?.to_vec(alloc)?;
-    let mut bytes = head(alloc, told)?;
-    bytes.extend_from_slice(&faults)?;
-    bytes.push(b',')?;
-    let mut bytes = with_tail(bytes, told)?;
+    let mut out = Writer::new(Vec::new(alloc));
+    write_all(&mut out, alloc, told)?;
+    let mut bytes = out.into_inner();
     bytes.push(b'\n')?;
     String::from_utf8(bytes).ok().ok_or(AllocError)
 }

@@ -1,12 +1,49 @@
-//! Chains as text.
+//! Chains, and what was loaded.
 
-use std::alloc::AllocError;
-use wesl_explain_world::{Explanation, NameId, Node, PathId};
+use std::alloc::{AllocError, Global};
+use wesl_explain_world::{Chain, Explanation, NameId, Node, PathId, Symbol, chain_in};
 
 // How many steps of a chain are written before and after those that are left out.
 const FIRST: usize = 3;
 
 const LAST: usize = 6;
+
+/// The modules that were loaded, for a link or until it was refused.
+pub fn loaded_in(told: &Explanation) -> &[PathId] {
+    match &told.until {
+        Some(until) => &until.modules,
+        None => &told.modules,
+    }
+}
+
+/// Why the declarations of a name are held, or without a name why the module is loaded.
+pub fn chain_of(
+    alloc: Global,
+    told: &Explanation,
+    path: PathId,
+    name: Option<NameId>,
+) -> Result<Chain, AllocError> {
+    let Some(until) = &told.until else {
+        return told.chain(alloc, path, name);
+    };
+    let node = match name {
+        Some(name) => Node::Item(Symbol { path, name }),
+        None => Node::Module(path),
+    };
+    chain_at(alloc, told, until.held.place_of(node))
+}
+
+/// Why what stands at a place was held until a link was refused.
+pub fn chain_at(
+    alloc: Global,
+    told: &Explanation,
+    place: Option<usize>,
+) -> Result<Chain, AllocError> {
+    match (&told.until, place) {
+        (Some(until), Some(place)) => chain_in(alloc, &until.held.nodes, place),
+        _ => Ok(Vec::new(alloc)),
+    }
+}
 
 /// Writes a declaration of a module: the module's path and its name.
 pub fn push_symbol(

@@ -1,10 +1,16 @@
 //! The program `wesl-explain`: a bundle in, and why its link is as it is, told to a person or as JSON.
 #![tactic(auto)]
 
+mod apart;
 mod as_json;
 mod chains;
+mod cures;
+mod faults_json;
+mod faults_text;
+mod headings;
 mod telling;
 mod text;
+mod uses;
 mod words;
 
 use crate::telling::{bytes_of, told_of, write_told};
@@ -46,10 +52,11 @@ fn main(rt: HostRuntime) -> ExitCode {
         },
     };
     let Some(bytes) = bytes else {
-        let _ = eprintln!(rt; "wesl-explain: the bundle cannot be read");
+        let name = wish.file.unwrap_or("on standard input");
+        let _ = eprintln!(rt; "wesl-explain: the bundle {name} cannot be read");
         return ExitCode::from(2);
     };
-    let told = match told_of(alloc, &bytes, wish.is_json) {
+    let told = match told_of(alloc, &bytes, wish.is_json, wish.shown) {
         Ok(told) => told,
         Err(_) => {
             let _ = eprintln!(rt; "wesl-explain: out of memory");

@@ -6,6 +6,7 @@ ghost use Rattle.wesl_explain.specs.Explained.{IsToldOf};
 
 use crate::as_json::json_of;
 use crate::text::text_of;
+use crate::words::Shown;
 use std::alloc::{AllocError, Global};
 use std::io::{Read, Write};
 use std::process::ExitCode;
@@ -48,23 +49,33 @@ pub struct Told {
     text: String,
 }
 
-/// What is told of the bundle that the bytes are, as text or as JSON.
-pub fn told_of(alloc: Global, bytes: &[u8], is_json: bool) -> Result<Told, AllocError>
+/// What is told of the bundle that the bytes are, as JSON, or what is asked for of it as text.
+pub fn told_of(
+    alloc: Global,
+    bytes: &[u8],
+    is_json: bool,
+    shown: Shown<'_>,
+) -> Result<Told, AllocError>
     ensures { IfOk result (IsToldOf bytes.now) }
 {
     let explanation = explained(alloc, bytes)?;
-    let text = form_of(alloc, &explanation, is_json)?;
+    let text = form_of(alloc, &explanation, is_json, shown)?;
     Ok(Told {
         is_linked: explanation.faults.is_empty(),
         text,
     })
 }
 
-fn form_of(alloc: Global, told: &Explanation, is_json: bool) -> Result<String, AllocError> {
+fn form_of(
+    alloc: Global,
+    told: &Explanation,
+    is_json: bool,
+    shown: Shown<'_>,
+) -> Result<String, AllocError> {
     if is_json {
         json_of(alloc, told)
     } else {
-        text_of(alloc, told)
+        text_of(alloc, told, shown)
     }
 }
 

@@ -1,14 +1,15 @@
 //! An explanation as plain text with headings.
 
-use crate::chains::{push_chain, push_symbol};
+use crate::chains::{chain_of, loaded_in, push_chain, push_symbol};
+use crate::faults_text::push_faults;
+use crate::words::Shown;
 use std::alloc::{AllocError, Global};
 use wesl_explain_world::{
-    Cure, Explanation, Fault, FreeName, HeldDeclaration, LoadedModule, Meaning, NameClash, PathId,
-    Read, UnusedImport,
+    Cure, Explanation, FreeName, HeldDeclaration, Meaning, NameClash, PathId, Read, UnusedImport,
 };
 
 /// Writes a heading with how many there are below it.
-fn push_heading(
+pub fn push_heading(
     out: &mut String,
     alloc: Global,
     heading: &str,
@@ -23,7 +24,7 @@ fn push_heading(
 }
 
 /// Writes a text between marks.
-fn push_quoted(out: &mut String, text: &str) -> Result<(), AllocError> {
+pub fn push_quoted(out: &mut String, text: &str) -> Result<(), AllocError> {
     out.push_str("`")?;
     out.push_str(text)?;
     out.push_str("`")?;
@@ -32,28 +33,33 @@ fn push_quoted(out: &mut String, text: &str) -> Result<(), AllocError> {
 
 fn push_module(
     out: &mut String,
+    alloc: Global,
     told: &Explanation,
-    module: &LoadedModule,
+    path: PathId,
 ) -> Result<(), AllocError> {
+    let chain = chain_of(alloc, told, path, None)?;
     out.push_str("  ")?;
-    out.push_str(told.path(module.path))?;
-    if module.chain.len() <= 1 {
+    out.push_str(told.path(path))?;
+    if chain.len() <= 1 {
         out.push_str("\n    it is the root\n")?;
         return Ok(());
     }
     out.push_str("\n    ")?;
-    push_chain(out, told, &module.chain)?;
+    push_chain(out, told, &chain)?;
     out.push_str("\n")?;
     Ok(())
 }
 
 fn push_modules(
     out: &mut String,
+    alloc: Global,
     told: &Explanation,
-    modules: &[LoadedModule],
+    shown: Shown<'_>,
 ) -> Result<(), AllocError> {
-    for module in modules {
-        push_module(out, told, module)?;
+    for path in loaded_in(told) {
+        if shown.has_module(told.path(*path)) {
+            push_module(out, alloc, told, *path)?;
+        }
     }
     Ok(())
 }
@@ -79,32 +85,59 @@ fn push_name(
 
 fn push_declaration(
     out: &mut String,
+    alloc: Global,
     told: &Explanation,
     declaration: &HeldDeclaration,
 ) -> Result<(), AllocError> {
+    let chain = chain_of(alloc, told, declaration.path, declaration.name)?;
     out.push_str("    ")?;
     push_name(out, told, declaration)?;
     out.push_str("\n      ")?;
-    push_chain(out, told, &declaration.chain)?;
+    push_chain(out, told, &chain)?;
     out.push_str("\n")?;
     Ok(())
+}
+
+/// Whether a held declaration is told.
+fn is_shown(told: &Explanation, shown: Shown<'_>, declaration: &HeldDeclaration) -> bool {
+    let has_name = match declaration.name {
+        Some(name) => {
+            shown.has_name(told.name(name)) || shown.has_name(declaration.printed.as_str())
+        }
+        None => shown.name.is_none(),
+    };
+    has_name && shown.has_module(told.path(declaration.path))
+}
+
+/// Writes the path of a module, unless it is the one so far.
+fn push_home(
+    out: &mut String,
+    told: &Explanation,
+    home: &mut Option<PathId>,
+    path: PathId,
+) -> Result<(), AllocError> {
+    if *home == Some(path) {
+        return Ok(());
+    }
+    *home = Some(path);
+    out.push_str("  ")?;
+    out.push_str(told.path(path))?;
+    out.push_str("\n")
 }
 
 /// Writes held declarations, below the path of each module.
 fn push_held(
     out: &mut String,
+    alloc: Global,
     told: &Explanation,
-    held: &[HeldDeclaration],
+    shown: Shown<'_>,
 ) -> Result<(), AllocError> {
     let mut home: Option<PathId> = None;
-    for declaration in held {
-        if home != Some(declaration.path) {
-            home = Some(declaration.path);
-            out.push_str("  ")?;
-            out.push_str(told.path(declaration.path))?;
-            out.push_str("\n")?;
+    for declaration in &told.held {
+        if is_shown(told, shown, declaration) {
+            push_home(out, told, &mut home, declaration.path)?;
+            push_declaration(out, alloc, told, declaration)?;
         }
-        push_declaration(out, told, declaration)?;
     }
     Ok(())
 }
@@ -235,32 +268,20 @@ fn push_unused(
     Ok(())
 }
 
-/// Writes where a fault stands in its source.
-fn push_span(out: &mut String, alloc: Global, fault: &Fault) -> Result<(), AllocError> {
-    if let Some(span) = fault.value.get("span") {
-        let span = span.to_string(alloc)?;
-        out.push_str(" at ")?;
-        out.push_str(span.as_str())?;
-    }
-    Ok(())
-}
-
-fn push_faults(out: &mut String, alloc: Global, faults: &[Fault]) -> Result<(), AllocError> {
-    for fault in faults {
-        out.push_str("  ")?;
-        out.push_str(fault.text.as_str())?;
-        push_span(out, alloc, fault)?;
-        out.push_str("\n")?;
-    }
-    Ok(())
-}
-
 /// Writes what is told of a link.
-fn push_link(out: &mut String, alloc: Global, told: &Explanation) -> Result<(), AllocError> {
+fn push_link(
+    out: &mut String,
+    alloc: Global,
+    told: &Explanation,
+    shown: Shown<'_>,
+) -> Result<(), AllocError> {
     push_heading(out, alloc, "Modules that were loaded", told.modules.len())?;
-    push_modules(out, told, &told.modules)?;
+    push_modules(out, alloc, told, shown)?;
     push_heading(out, alloc, "\nDeclarations that are held", told.held.len())?;
-    push_held(out, told, &told.held)?;
+    push_held(out, alloc, told, shown)?;
+    if !shown.is_all() {
+        return Ok(());
+    }
     push_heading(out, alloc, "\nNames that clash", told.clashes.len())?;
     push_clashes(out, told, &told.clashes)?;
     push_heading(out, alloc, "\nNames that stay free", told.free.len())?;
@@ -269,11 +290,30 @@ fn push_link(out: &mut String, alloc: Global, told: &Explanation) -> Result<(), 
     push_unused(out, told, &told.unused)
 }
 
-/// The explanation as plain text with headings.
-pub fn text_of(alloc: Global, told: &Explanation) -> Result<String, AllocError> {
+/// Writes what was loaded until a link was refused.
+fn push_until(
+    out: &mut String,
+    alloc: Global,
+    told: &Explanation,
+    shown: Shown<'_>,
+) -> Result<(), AllocError> {
+    if told.until.is_none() {
+        return Ok(());
+    }
+    push_heading(
+        out,
+        alloc,
+        "\nModules that were loaded until then",
+        loaded_in(told).len(),
+    )?;
+    push_modules(out, alloc, told, shown)
+}
+
+/// The explanation as plain text with headings: of a link all of it, or what is asked for.
+pub fn text_of(alloc: Global, told: &Explanation, shown: Shown<'_>) -> Result<String, AllocError> {
     let mut out = String::new(alloc);
     if !told.modules.is_empty() {
-        push_link(&mut out, alloc, told)?;
+        push_link(&mut out, alloc, told, shown)?;
     }
     if told.faults.is_empty() {
         return Ok(out);
@@ -281,7 +321,7 @@ pub fn text_of(alloc: Global, told: &Explanation) -> Result<String, AllocError> 
     if !told.modules.is_empty() {
         out.push_str("\n")?;
     }
-    push_heading(&mut out, alloc, "Refused, faults", told.faults.len())?;
-    push_faults(&mut out, alloc, &told.faults)?;
+    push_faults(&mut out, alloc, told)?;
+    push_until(&mut out, alloc, told, shown)?;
     Ok(out)
 }

@@ -3,11 +3,45 @@
 use clap::{Arg, ArgAction, ArgMatches, Command};
 use std::alloc::{AllocError, Global};
 
+/// What of a link is told as text: all, or what bears a name or stands in a module.
+#[derive(Clone, Copy)]
+pub struct Shown<'a> {
+    /// The name of the declarations that are told.
+    pub name: Option<&'a str>,
+    /// The path of the module that is told.
+    pub module: Option<&'a str>,
+}
+
+impl Shown<'_> {
+    /// Whether all is told.
+    pub fn is_all(&self) -> bool {
+        self.name.is_none() && self.module.is_none()
+    }
+
+    /// Whether what stands in the module at a path is told.
+    pub fn has_module(&self, path: &str) -> bool {
+        match self.module {
+            Some(wanted) => wanted == path,
+            None => true,
+        }
+    }
+
+    /// Whether what has a name is told.
+    pub fn has_name(&self, name: &str) -> bool {
+        match self.name {
+            Some(wanted) => wanted == name,
+            None => true,
+        }
+    }
+}
+
 /// What the program is asked for.
 #[derive(Clone, Copy)]
 pub struct Wish<'a> {
     /// Whether the explanation is written as JSON.
     pub is_json: bool,
+    /// What of a link is told as text.
+    pub shown: Shown<'a>,
     /// The file that holds the bundle; without one it is on standard input.
     pub file: Option<&'a str>,
 }
@@ -18,8 +52,17 @@ pub fn command<'a>(alloc: Global) -> Result<Command<'a>, AllocError> {
         .long("json")
         .help("Write one JSON object (docs/schema/explanation.json) in place of text")
         .action(ArgAction::SetTrue);
+    let why = Arg::new(alloc, "why")
+        .long("why")
+        .value_name("NAME")
+        .help("Tell only why the declarations of this name are held");
+    let module = Arg::new(alloc, "module")
+        .long("module")
+        .value_name("PATH")
+        .help("Tell only of what is held in this module");
     let file = Arg::new(alloc, "FILE").help("The bundle [default: standard input]");
     Command::new(alloc, "wesl-explain")
+        .version("for trees of the forms 1 and 2")
         .about(
             "Tells why the link of a bundle is as it is: what is held and why, what clashes, what stays free",
         )
@@ -27,6 +70,8 @@ pub fn command<'a>(alloc: Global) -> Result<Command<'a>, AllocError> {
             "Ends with 0 where the bundle links, with 1 where it is refused, and with 2 for wrong words and where a read or a write fails.",
         )
         .arg(json)?
+        .arg(why)?
+        .arg(module)?
         .arg(file)
 }
 
@@ -34,6 +79,10 @@ pub fn command<'a>(alloc: Global) -> Result<Command<'a>, AllocError> {
 pub fn wish_of<'a>(matches: &ArgMatches<'a>) -> Wish<'a> {
     Wish {
         is_json: matches.get_flag("json"),
+        shown: Shown {
+            name: matches.get_str("why"),
+            module: matches.get_str("module"),
+        },
         file: matches.get_str("FILE"),
     }
 }

@@ -33,3 +33,8 @@ HasItsReasons is_eager w =
     (root : Table PathId NameId)
     × IsLink root (task_from root.path w.kept.items is_eager) w.linked
     × AreReasons w.linked.tables (task_from root.path w.kept.items is_eager) w.reasons
+
+-- the chain is a reason of it in whatever link these are the reasons of, where there are reasons
+abbrev pub TellsWhyIn : Option (List Found) → Node PathId NameId → List (Node PathId NameId) → Type 0
+TellsWhyIn None x xs = xs ≡ []
+TellsWhyIn (Some fs) x xs = TellsWhy fs x xs

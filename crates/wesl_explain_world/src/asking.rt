@@ -1,10 +1,10 @@
 //! What is asked for in a link, and the imports that nothing uses.
 
 use crate::explanation::UnusedImport;
-use crate::texts::Texts;
 use crate::world::World;
 use std::alloc::{AllocError, Global};
 use std::collections::HashMap;
+use wesl_explain_faults::Texts;
 use wesl_link_symbols::ids::{NameId, PathId};
 use wesl_link_symbols::keyed;
 use wesl_link_symbols::symbols::{Import, Symbol};

@@ -2,24 +2,24 @@
 ghost use Rattle.std.specs.Prelude.{◌≡◌, false, IfOk};
 ghost use Rattle.wesl_tree_names.specs.Path.{path_view, is_relative};
 ghost use Rattle.wesl_explain_world.specs.Why.{HasItsReasons};
-ghost use Rattle.wesl_explain_world.specs.Explained.{ExplainsHeld, ExplainsLink, TellsWhyAll};
+ghost use Rattle.wesl_explain_world.specs.Explained.{ExplainsHeld, ExplainsLink, TellsAll};
 
 use crate::asking::unused_imports;
 use crate::clashing::clashes_in;
 use crate::explanation::{Explanation, Fault, HeldDeclaration};
-use crate::faults::{fault_of, faults_of};
+use crate::faults::fault_of;
 use crate::freeing::free_in;
-use crate::holding::{held_in, modules_of};
+use crate::holding::held_in;
 use crate::loading::TableLoader;
+use crate::refusing::{explain_refusal, listed_paths};
 use crate::sources::Sources;
-use crate::texts::Texts;
 use crate::world::{World, world_of};
 use bumpalo::Bump;
 use json::Scratch;
 use std::alloc::{AllocError, Global};
+use wesl_explain_faults::Texts;
 use wesl_link::{LinkRequest, Resolutions, link_at};
 use wesl_link_symbols::ids::PathId;
-use wesl_link_tables::numbers::Numbers;
 use wesl_program::{BundleMangler, bundle_of_bytes};
 use wesl_program_bundle::{BuiltinNames, Bundle, Options};
 use wesl_tree::{Diagnostic, Error, ModulePath, TranslationUnit};
@@ -74,6 +74,7 @@ fn explain(alloc: Global, bundle: Bundle) -> Result<Explanation, AllocError>
         builtins,
     } = bundle;
     let keep = names(alloc, &keep)?;
+    let listed = listed_paths(alloc, &modules)?;
     let request = LinkRequest {
         root: &root,
         keep: &keep,
@@ -90,11 +91,7 @@ fn explain(alloc: Global, bundle: Bundle) -> Result<Explanation, AllocError>
             found,
             sources,
         ),
-        Err(diagnostic) => {
-            let mut told = Explanation::nothing(alloc);
-            told.faults = faults_of(alloc, diagnostic, sources)?;
-            Ok(told)
-        }
+        Err(diagnostic) => explain_refusal(alloc, &request, diagnostic, sources, &listed),
     }
 }
 
@@ -124,14 +121,12 @@ fn world_in(
     ensures { IfOk result (λ found. HasItsReasons request.now.is_eager found.0) }
 {
     let order = found.module_order(alloc)?;
-    let mut loader = TableLoader {
-        sources,
-        numbers: Numbers::new(alloc),
-    };
+    let mut loader = TableLoader::new(alloc, sources, false);
     let world = world_of(alloc, &mut loader, request, &order)?;
     let TableLoader {
         sources: _,
         numbers,
+        read: _,
     } = loader;
     let texts = Texts::new(alloc, numbers)?;
     Ok((world, texts))
@@ -152,7 +147,7 @@ fn explain_link(
     match world_in(alloc, request, &found, sources) {
         Ok((world, texts)) => {
             let unit = unit_of(alloc, found, options)?;
-            explain_world(alloc, options, builtins, &world, texts, &unit)
+            explain_world(alloc, options, builtins, world, texts, &unit)
         }
         Err(error) => {
             let mut told = Explanation::nothing(alloc);
@@ -192,28 +187,36 @@ fn explain_world(
     alloc: Global,
     options: Options,
     builtins: Option<Builtins>,
-    world: &World,
+    world: World,
     texts: Texts,
     unit: &TranslationUnit,
 ) -> Result<Explanation, AllocError>
-    ensures { IfOk result (TellsWhyAll world.now) }
+    ensures { IfOk result (TellsAll world) }
 {
-    let modules = modules_of(alloc, world)?;
-    let held = held_in(alloc, world, &texts, options)?;
+    let held = held_in(alloc, &world, &texts, options)?;
     let homes = homes_of(alloc, &held)?;
     let clashes = clashes_in(alloc, unit, &homes, world.root(), options)?;
-    let free = free_in(alloc, world, &texts, unit, builtins.as_ref())?;
-    let unused = unused_imports(alloc, world, &texts)?;
+    let free = free_in(alloc, &world, &texts, unit, builtins.as_ref())?;
+    let unused = unused_imports(alloc, &world, &texts)?;
     let faults = faults_in(alloc, unit, builtins.as_ref())?;
     let (names, paths) = texts.into_lists(alloc)?;
+    let World {
+        linked: _,
+        reasons,
+        places: _,
+        order,
+        kept: _,
+    } = world;
     Ok(Explanation {
         paths,
         names,
-        modules,
+        reasons: Some(reasons),
+        modules: order,
         held,
         clashes,
         free,
         unused,
         faults,
+        until: None,
     })
 }

@@ -1,9 +1,13 @@
 //! What is told of the link of a bundle: texts, and lists of what they are the paths and names of.
+ghost use Rattle.std.specs.Prelude.{IfOk};
+ghost use Rattle.wesl_explain_world.specs.Why.{TellsWhyIn, node_of};
 ghost use Rattle.wesl_explain_world.specs.Explained.{TellsNothing};
 
-use crate::world::Chain;
+use crate::world::{Chain, reason_of};
 use serde_json::Value;
-use std::alloc::Global;
+use std::alloc::{AllocError, Global};
+use wesl_explain_faults::{HeldUntil, LinkFault};
+use wesl_link_reasons::Reasons;
 use wesl_link_symbols::ids::{NameId, PathId};
 
 /// What is told of the link of a bundle.
@@ -13,8 +17,10 @@ pub struct Explanation {
     pub paths: Vec<String>,
     /// The names, by their numbers.
     pub names: Vec<String>,
-    /// The modules that were loaded, the root first and the others in path order.
-    pub modules: Vec<LoadedModule>,
+    /// Who asked first for each thing that is held in a link.
+    pub reasons: Option<Reasons>,
+    /// The modules that were loaded for a link, the root first and the others in path order.
+    pub modules: Vec<PathId>,
     /// The declarations that are held, in the order of the linked unit.
     pub held: Vec<HeldDeclaration>,
     /// Where printed names read otherwise than they should.
@@ -25,6 +31,8 @@ pub struct Explanation {
     pub unused: Vec<UnusedImport>,
     /// Why the bundle is refused: nothing where it links.
     pub faults: Vec<Fault>,
+    /// What was loaded and held until a link was refused.
+    pub until: Option<HeldUntil>,
 }
 
 impl Explanation {
@@ -35,12 +43,30 @@ impl Explanation {
         Explanation {
             paths: Vec::new(alloc),
             names: Vec::new(alloc),
+            reasons: None,
             modules: Vec::new(alloc),
             held: Vec::new(alloc),
             clashes: Vec::new(alloc),
             free: Vec::new(alloc),
             unused: Vec::new(alloc),
             faults: Vec::new(alloc),
+            until: None,
+        }
+    }
+
+    /// Why the declarations of a name in a module are held in the link, or without a name why the module is loaded. The first is
+    /// there without being asked for, and each next one is asked for by the one before. It has no steps where that is not held.
+    pub fn chain(
+        &self,
+        alloc: Global,
+        path: PathId,
+        name: Option<NameId>,
+    ) -> Result<Chain, AllocError>
+        ensures { IfOk result (λ chain. TellsWhyIn self.now.reasons (node_of path name) chain.items) }
+    {
+        match &self.reasons {
+            Some(reasons) => reason_of(alloc, reasons, path, name),
+            None => Ok(Vec::new(alloc)),
         }
     }
 
@@ -61,14 +87,6 @@ impl Explanation {
     }
 }
 
-/// A module that was loaded.
-#[derive(Drop)]
-pub struct LoadedModule {
-    pub path: PathId,
-    /// why it was loaded
-    pub chain: Chain,
-}
-
 /// A declaration that is held.
 #[derive(Drop)]
 pub struct HeldDeclaration {
@@ -78,8 +96,6 @@ pub struct HeldDeclaration {
     pub name: Option<NameId>,
     /// the name that it prints as
     pub printed: String,
-    /// why it is held
-    pub chain: Chain,
 }
 
 /// What an identifier stands for.
@@ -151,11 +167,25 @@ pub struct UnusedImport {
     pub item: NameId,
 }
 
-/// Why the bundle is refused.
+/// A fault as its line has it.
 #[derive(Drop)]
-pub struct Fault {
-    /// The fault as its line has it, with the declaration that it is in where that is told.
+pub struct FaultLine {
+    /// The value of the line, with the declaration that the fault is in where that is told.
     pub value: Value,
     /// The same for a person.
     pub text: String,
+}
+
+/// Why the bundle is refused.
+#[derive(Drop)]
+pub struct Fault {
+    pub line: FaultLine,
+    /// Who asks, and what else is told of a fault of a link.
+    pub link: Option<LinkFault>,
+    /// All faults of the conditions of a module that is refused.
+    pub conditions: Vec<FaultLine>,
+    /// A path of the bundle that is near to one where no module is.
+    pub near_path: Option<String>,
+    /// The path of a module of the bundle for which an item was asked.
+    pub named_module: Option<String>,
 }

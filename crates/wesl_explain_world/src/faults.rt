@@ -1,8 +1,8 @@
 //! Why a bundle is refused.
-ghost use Rattle.std.specs.Prelude.{◌≡◌, ◌<◌, ◌≤◌, false, vec_len, IfOk};
+ghost use Rattle.std.specs.Prelude.{◌≡◌, false};
 ghost use Rattle.wesl_tree_names.specs.Path.{is_relative};
 
-use crate::explanation::Fault;
+use crate::explanation::{Fault, FaultLine};
 use crate::sources::Sources;
 use serde_json::{Value, put};
 use std::alloc::{AllocError, Global};
@@ -51,26 +51,24 @@ fn with_declaration(
     }
 }
 
-/// What is told of a diagnostic.
-pub fn fault_of(alloc: Global, mut diagnostic: Diagnostic) -> Result<Fault, AllocError> {
+/// What the line of a diagnostic tells.
+pub fn fault_line_of(alloc: Global, mut diagnostic: Diagnostic) -> Result<FaultLine, AllocError> {
     let text = text_of(alloc, &diagnostic)?;
     let declaration = diagnostic.declaration.take();
     let value = line_of(alloc, diagnostic)?;
     let value = with_declaration(alloc, value, declaration)?;
-    Ok(Fault { value, text })
+    Ok(FaultLine { value, text })
 }
 
-/// Adds a fault, unless it is told already.
-fn add(faults: &mut Vec<Fault>, fault: Fault) -> Result<(), AllocError>
-    ensures { vec_len faults.old ≤ vec_len faults.new }
-{
-    for told in faults.as_slice() {
-        if told.value == fault.value {
-            return Ok(());
-        }
-    }
-    faults.push(fault)?;
-    Ok(())
+/// A fault of which its line is told alone.
+pub fn fault_of(alloc: Global, diagnostic: Diagnostic) -> Result<Fault, AllocError> {
+    Ok(Fault {
+        line: fault_line_of(alloc, diagnostic)?,
+        link: None,
+        conditions: Vec::new(alloc),
+        near_path: None,
+        named_module: None,
+    })
 }
 
 /// The faults of the conditions of a unit, without the module that they are in.
@@ -82,59 +80,36 @@ fn faults_in(
     faults(alloc, unit, features).ok().ok_or(AllocError)
 }
 
-/// Adds the faults of the conditions of a unit that stands at a path.
-fn add_conditions(
+/// The lines of faults that stand in a module.
+fn lines_in(
     alloc: Global,
     path: &ModulePath,
     found: Vec<Diagnostic>,
-    faults: &mut Vec<Fault>,
-) -> Result<(), AllocError>
-    ensures { vec_len faults.old ≤ vec_len faults.new }
-{
+) -> Result<Vec<FaultLine>, AllocError> {
+    let mut lines = Vec::with_capacity(alloc, found.len())?;
     for diagnostic in found {
         let mut placed = diagnostic;
         placed.module = Some(path.try_clone(alloc).ok().ok_or(AllocError)?);
-        add(faults, fault_of(alloc, placed)?)?;
+        lines.push(fault_line_of(alloc, placed)?)?;
     }
-    Ok(())
+    Ok(lines)
 }
 
-/// Adds the faults of the conditions of the module at a path, if it is there.
-fn add_module(
+/// The faults of the conditions of the module at a path: none where it is not there, or no condition is judged.
+pub fn condition_faults(
     alloc: Global,
     sources: &mut Sources<'_>,
     path: &ModulePath,
-    faults: &mut Vec<Fault>,
-) -> Result<(), AllocError>
-    ensures { vec_len faults.old ≤ vec_len faults.new }
-{
+) -> Result<Vec<FaultLine>, AllocError> {
     if path.is_relative() {
-        return Ok(());
+        return Ok(Vec::new(alloc));
     }
     let Some(unit) = sources.unjudged(alloc, path).ok() else {
-        return Ok(());
+        return Ok(Vec::new(alloc));
     };
     let Some(features) = &sources.features else {
-        return Ok(());
+        return Ok(Vec::new(alloc));
     };
     let found = faults_in(alloc, &unit, features)?;
-    add_conditions(alloc, path, found, faults)
-}
-
-/// The faults of a link that was refused: the one that it was refused with, and those of the conditions of each module that
-/// was asked for.
-pub fn faults_of(
-    alloc: Global,
-    diagnostic: Diagnostic,
-    mut sources: Sources<'_>,
-) -> Result<Vec<Fault>, AllocError>
-    ensures { IfOk result (λ faults. 0 < vec_len faults) }
-{
-    let mut faults = Vec::new(alloc);
-    faults.push(fault_of(alloc, diagnostic)?)?;
-    let asked = std::mem::replace(&mut sources.asked, Vec::new(alloc));
-    for path in &asked {
-        add_module(alloc, &mut sources, path, &mut faults)?;
-    }
-    Ok(faults)
+    lines_in(alloc, path, found)
 }

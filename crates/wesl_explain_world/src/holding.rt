@@ -1,37 +1,17 @@
-//! What is held in a link, and why.
-ghost use Rattle.std.specs.Prelude.{◌≡◌, None, IfOk, OnOk, All};
-ghost use Rattle.wesl_explain_world.specs.Why.{TellsWhy, node_of};
-ghost use Rattle.wesl_explain_world.specs.Explained.{TellsWhyLoaded, TellsWhyHeld, AddsHeld};
+//! What is held in a link.
+ghost use Rattle.std.specs.Prelude.{◌≡◌, IfOk, OnOk, All};
+ghost use Rattle.wesl_explain_world.specs.Explained.{IsHeldIn, AddsHeld};
 
-use crate::explanation::{HeldDeclaration, LoadedModule};
-use crate::texts::Texts;
+use crate::explanation::HeldDeclaration;
 use crate::world::World;
 use std::alloc::{AllocError, Global};
+use wesl_explain_faults::Texts;
 use wesl_link_symbols::ids::{NameId, PathId};
 use wesl_link_symbols::table::Table;
 use wesl_mangle::Mangler;
 use wesl_program::BundleMangler;
 use wesl_program_bundle::{Naming, Options};
 use wesl_tree::ModulePath;
-
-/// What is told of a module.
-fn loaded(alloc: Global, world: &World, path: PathId) -> Result<LoadedModule, AllocError>
-    ensures { IfOk result (λ m. TellsWhy world.now.reasons (node_of m.path None) m.chain.items) }
-{
-    let chain = world.reason(alloc, path, None)?;
-    Ok(LoadedModule { path, chain })
-}
-
-/// The modules that were loaded, with why.
-pub fn modules_of(alloc: Global, world: &World) -> Result<Vec<LoadedModule>, AllocError>
-    ensures { IfOk result (λ modules. All (TellsWhyLoaded world.now) modules.items) }
-{
-    let mut modules = Vec::new(alloc);
-    for path in &world.order {
-        modules.push(loaded(alloc, world, *path)?)?;
-    }
-    Ok(modules)
-}
 
 /// The name that a mangler gives an item.
 fn mangled(
@@ -74,17 +54,14 @@ fn told(
     path: PathId,
     name: Option<NameId>,
 ) -> Result<HeldDeclaration, AllocError>
-    ensures named { IfOk result (λ h. (h.path ≡ path) × (h.name ≡ name)) }
-    ensures why { IfOk result (λ h. TellsWhy world.now.reasons (node_of h.path h.name) h.chain.items) }
+    ensures { IfOk result (λ h. (h.path ≡ path) × (h.name ≡ name)) }
 {
     let is_root = world.root() == Some(path);
     let printed = printed(alloc, texts, options, is_root, path, name)?;
-    let chain = world.reason(alloc, path, name)?;
     Ok(HeldDeclaration {
         path,
         name,
         printed,
-        chain,
     })
 }
 
@@ -116,7 +93,7 @@ pub fn held_in(
     texts: &Texts,
     options: Options,
 ) -> Result<Vec<HeldDeclaration>, AllocError>
-    ensures { IfOk result (λ held. All (TellsWhyHeld world.now) held.items) }
+    ensures { IfOk result (λ held. All (IsHeldIn world.now) held.items) }
 {
     let mut held = Vec::new(alloc);
     for path in &world.order {

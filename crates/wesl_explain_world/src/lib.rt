@@ -10,15 +10,20 @@ mod faults;
 mod freeing;
 mod holding;
 mod loading;
+mod refusing;
 mod sources;
-mod texts;
 mod wgsl_names;
 mod world;
 
 pub use explaining::explained;
 pub use explanation::{
-    Cure, Explanation, Fault, FreeName, HeldDeclaration, LoadedModule, Meaning, NameClash, Read,
+    Cure, Explanation, Fault, FaultLine, FreeName, HeldDeclaration, Meaning, NameClash, Read,
     UnusedImport,
+};
+pub use wesl_explain_faults::{
+    Asker, FaultCure, Flaw, HeldUntil, LinkFault, Target, Use, Wrong, chain_in,
 };
 pub use wesl_link_reasons::node::Node;
 pub use wesl_link_symbols::ids::{NameId, PathId};
+pub use wesl_link_symbols::symbols::Symbol;
+pub use world::Chain;

@@ -1,15 +1,20 @@
 //! The symbol tables of the modules that a link loads.
 ghost use Rattle.std.specs.Prelude.{◌≡◌, false, IfOk, IfErr};
+ghost use Rattle.wesl_tree_names.specs.Path.{path_view, is_relative};
+ghost use Rattle.wesl_link_tables.specs.Numbering.{PathAt};
+ghost use Rattle.wesl_link_tables.specs.NumbersView.{numbering};
 
 use crate::sources::Sources;
-use std::alloc::Global;
+use std::alloc::{AllocError, Global};
+use wesl_explain_faults::{ReadModule, ReadModules};
 use wesl_link_reach::loader::{LoadError, Loader};
 use wesl_link_symbols::ids::PathId;
 use wesl_link_symbols::table::Table;
+use wesl_link_tables::marks::Mark;
 use wesl_link_tables::numbers::Numbers;
 use wesl_link_tables::table::{Tabled, table_of};
 use wesl_resolve_base::Resolver;
-use wesl_tree::ModulePath;
+use wesl_tree::{ModulePath, TranslationUnit};
 use wesl_tree_names::ResolveError;
 
 /// Reads modules and makes their tables, under one numbering.
@@ -17,6 +22,54 @@ use wesl_tree_names::ResolveError;
 pub struct TableLoader<'t> {
     pub sources: Sources<'t>,
     pub numbers: Numbers,
+    /// The modules that were read, where they are kept.
+    pub read: Option<ReadModules>,
+}
+
+impl<'t> TableLoader<'t> {
+    /// Nothing was read. The modules that are read are kept where that is asked for.
+    pub fn new(alloc: Global, sources: Sources<'t>, is_keeping: bool) -> TableLoader<'t> {
+        let read = if is_keeping {
+            Some(ReadModules::new(alloc))
+        } else {
+            None
+        };
+        TableLoader {
+            sources,
+            numbers: Numbers::new(alloc),
+            read,
+        }
+    }
+
+    /// The table of a unit that was read, which is kept where that is asked for.
+    fn table_of_unit(
+        &mut self,
+        alloc: Global,
+        id: PathId,
+        path: &ModulePath,
+        unit: TranslationUnit,
+    ) -> Result<Table, AllocError>
+        requires asked { is_relative (path_view path.now) ≡ false }
+        requires held { PathAt (numbering self.old.numbers) id (path_view path.now) }
+        ensures path { IfOk result (λ t. t.path ≡ id) }
+    {
+        let Tabled { table, marks } = table_of(alloc, &mut self.numbers, id, path, &unit)?;
+        self.keep(id, unit, marks)?;
+        Ok(table)
+    }
+
+    /// Keeps a module that was read, where that is asked for.
+    fn keep(
+        &mut self,
+        path: PathId,
+        unit: TranslationUnit,
+        marks: Vec<Vec<Mark>>,
+    ) -> Result<(), AllocError> {
+        match &mut self.read {
+            Some(read) => read.put(ReadModule { path, unit, marks }),
+            None => Ok(()),
+        }
+    }
 }
 
 /// The path of a number.
@@ -53,8 +106,8 @@ impl Loader<ResolveError> for TableLoader<'_> {
             Err(refusal) => return Err(LoadError::Refused(refusal)),
         };
         unit.remove_voids();
-        match table_of(alloc, &mut self.numbers, id, &module, &unit) {
-            Ok(Tabled { table, marks: _ }) => Ok(table),
+        match self.table_of_unit(alloc, id, &module, unit) {
+            Ok(table) => Ok(table),
             Err(_) => Err(LoadError::Memory),
         }
     }

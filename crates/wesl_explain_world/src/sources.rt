@@ -9,14 +9,12 @@ use wesl_program_bundle::{BundleModule, Package};
 use wesl_resolve_base::{Resolver, not_found, refused};
 use wesl_tree::{ModulePath, ResolveError, TranslationUnit};
 
-/// The modules and packages of a bundle, each unit as the features leave it, and the paths that were asked for.
+/// The modules and packages of a bundle, each unit as the features leave it.
 #[derive(Drop)]
 pub struct Sources<'t> {
     modules: BundleSources<'t>,
     /// The answers for feature flags.
     pub features: Option<Features>,
-    /// The paths that a unit was asked for, in order.
-    pub asked: Vec<ModulePath>,
 }
 
 impl<'t> Sources<'t> {
@@ -30,7 +28,6 @@ impl<'t> Sources<'t> {
         Ok(Sources {
             modules: sources_of(alloc, listed, packages)?,
             features,
-            asked: Vec::new(alloc),
         })
     }
 
@@ -69,13 +66,6 @@ impl Resolver for Sources<'_> {
         alloc: Global,
         path: &ModulePath,
     ) -> Result<TranslationUnit, ResolveError> {
-        let copy = match path.try_clone(alloc) {
-            Ok(copy) => copy,
-            Err(_) => return Err(ResolveError::Memory),
-        };
-        if self.asked.push(copy).is_err() {
-            return Err(ResolveError::Memory);
-        }
         let unit = match self.modules.resolve_module(alloc, path) {
             Ok(unit) => unit,
             Err(refusal) => return Err(refusal),

@@ -63,6 +63,21 @@ fn module_chain(alloc: Global, reasons: &Reasons, path: PathId) -> Result<Chain,
     }
 }
 
+/// Why a declaration is held: that of a name, or a const_assert.
+pub fn reason_of(
+    alloc: Global,
+    reasons: &Reasons,
+    path: PathId,
+    name: Option<NameId>,
+) -> Result<Chain, AllocError>
+    ensures { IfOk result (λ chain. TellsWhy reasons.now (node_of path name) chain.items) }
+{
+    match name {
+        Some(name) => symbol_chain(alloc, reasons, path, name),
+        None => module_chain(alloc, reasons, path),
+    }
+}
+
 impl World {
     /// The root's path.
     pub fn root(&self) -> Option<PathId> {
@@ -79,21 +94,6 @@ impl World {
         }
     }
 
-    /// Why a declaration is held: that of a name, or a const_assert.
-    pub fn reason(
-        &self,
-        alloc: Global,
-        path: PathId,
-        name: Option<NameId>,
-    ) -> Result<Chain, AllocError>
-        ensures { IfOk result (λ chain. TellsWhy self.now.reasons (node_of path name) chain.items) }
-    {
-        match name {
-            Some(name) => symbol_chain(alloc, &self.reasons, path, name),
-            None => module_chain(alloc, &self.reasons, path),
-        }
-    }
-
     /// Whether a declaration is held: that of a name where its symbol is reached, and each const_assert.
     pub fn holds(&self, path: PathId, name: Option<NameId>) -> bool
         ensures { IsTrue result ↔ IsHeld self.now.linked path name }
@@ -106,7 +106,7 @@ impl World {
 }
 
 /// The numbers of the names that are kept: none where all that is declared is asked for.
-fn kept_names(
+pub fn kept_names(
     alloc: Global,
     loader: &mut TableLoader<'_>,
     request: &LinkRequest<'_>,
@@ -155,7 +155,7 @@ fn refusal_of(error: LinkError<ResolveError>) -> Error {
 }
 
 /// The table of the root.
-fn root_table(
+pub fn root_table(
     alloc: Global,
     loader: &mut TableLoader<'_>,
     root: &ModulePath,

@@ -4,8 +4,8 @@
 pub mod absence;
 pub mod asker;
 mod clash;
-mod given;
-mod keys;
+pub mod given;
+pub mod keys;
 mod laws;
 mod loading;
 pub mod open;

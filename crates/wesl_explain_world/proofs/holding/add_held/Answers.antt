@@ -10,6 +10,6 @@ loop-declaration-preserved c =
       | then-holds+in_ok-told+in_ok-push w ↦
           held_same world _ _ w.held-is
           (held_more world _ _ w.in_ok-told.field-0 w.in_ok-push.ensures.items (c.loop-declaration.invariant there before)
-          (held_told world c.args.table.now w.in_ok-told.field-0 c.path-path.result c.name-name.result there c.path-path.ensures w.in_ok-told.ensures.named (c.holds.ensures.0 w.if-holds.true) w.in_ok-told.ensures.why))
+          (held_told world c.args.table.now w.in_ok-told.field-0 c.path-path.result c.name-name.result there c.path-path.ensures w.in_ok-told.ensures (c.holds.ensures.0 w.if-holds.true)))
       | else-holds w ↦ held_same world _ _ w.held-is (c.loop-declaration.invariant there before)
     ]

@@ -1,4 +1,4 @@
-use Rattle.wesl_explain_world.proofs.world.World.reason.Goals as goal
+use Rattle.wesl_explain_world.proofs.world.reason_of.Goals as goal
 
 pub returns-in-Some : goal.returns-in-Some
 returns-in-Some c = rw c.in-Some.is c.symbol_chain.ensures

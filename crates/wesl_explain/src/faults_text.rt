@@ -1,0 +1,79 @@
+//! Faults as text.
+
+use crate::apart::{apart, uses_of};
+use crate::cures::cure_text;
+use crate::headings::{is_kept, push_head, push_span};
+use crate::text::push_heading;
+use crate::uses::push_uses;
+use std::alloc::{AllocError, Global};
+use wesl_explain_world::{Explanation, Fault, FaultLine, LinkFault};
+
+/// Writes what helps.
+fn push_cures(out: &mut String, link: &LinkFault) -> Result<(), AllocError> {
+    for cure in &link.cures {
+        out.push_str("     cure: ")?;
+        out.push_str(cure_text(*cure, link, is_kept(link)))?;
+        out.push_str("\n")?;
+    }
+    Ok(())
+}
+
+/// Writes a fault of which its line is told alone.
+fn push_line(out: &mut String, alloc: Global, line: &FaultLine) -> Result<(), AllocError> {
+    out.push_str(line.text.as_str())?;
+    push_span(out, alloc, line)?;
+    out.push_str("\n")?;
+    Ok(())
+}
+
+/// Writes a fault, with who asks for it and what helps. `behind` are the faults after it.
+fn push_fault(
+    out: &mut String,
+    alloc: Global,
+    told: &Explanation,
+    fault: &Fault,
+    behind: &[Fault],
+) -> Result<(), AllocError> {
+    let Some(link) = &fault.link else {
+        return push_line(out, alloc, &fault.line);
+    };
+    let uses = uses_of(alloc, fault, behind)?;
+    push_head(out, alloc, told, fault, link)?;
+    push_uses(out, alloc, told, &uses)?;
+    push_cures(out, link)
+}
+
+/// The faults from one on.
+fn behind_of(faults: &[Fault], index: usize) -> Option<(&Fault, &[Fault])> {
+    match faults.get(index..) {
+        Some(rest) => rest.split_first(),
+        None => None,
+    }
+}
+
+/// Writes the fault with an index, under a number.
+fn push_numbered(
+    out: &mut String,
+    alloc: Global,
+    told: &Explanation,
+    number: usize,
+    index: usize,
+) -> Result<(), AllocError> {
+    let Some((fault, behind)) = behind_of(&told.faults, index) else {
+        return Ok(());
+    };
+    let number = number.to_string(alloc)?;
+    out.push_str(number.as_str())?;
+    out.push_str("  ")?;
+    push_fault(out, alloc, told, fault, behind)
+}
+
+/// Writes the faults, each with its number.
+pub fn push_faults(out: &mut String, alloc: Global, told: &Explanation) -> Result<(), AllocError> {
+    let indexes = apart(alloc, told)?;
+    push_heading(out, alloc, "Refused, faults", indexes.len())?;
+    for (place, index) in indexes.iter().enumerate() {
+        push_numbered(out, alloc, told, place.saturating_add(1), *index)?;
+    }
+    Ok(())
+}

@@ -1,0 +1,9 @@
+use Rattle.std.proofs.Common.{◌-◌, ◌^◌, vec_len}
+use Rattle.wesl_link_faults.specs.Keys.{AreKeys}
+use Rattle.wesl_explain_faults.proofs.way.way_of.Given as goal
+
+abbrev pub invariant-hops : goal.invariant-hops
+invariant-hops l = AreKeys l.asked
+
+abbrev pub decreases-hops : goal.decreases-hops
+decreases-hops l = 2 ^ 64 - vec_len l.met

@@ -1,0 +1,318 @@
+//! What is held in a link that goes on behind its faults, and who asked for each first.
+ghost use Rattle.std.specs.Prelude.{◌≡◌};
+ghost use Rattle.wesl_link_faults.specs.Searching.{IsReady};
+
+use crate::way::way_of;
+use std::alloc::{AllocError, Global};
+use std::collections::HashMap;
+use wesl_cond_choices::place::Place;
+use wesl_link_faults::given::{Given, ask};
+use wesl_link_reasons::found::Found;
+use wesl_link_reasons::node::Node;
+use wesl_link_symbols::ids::{NameId, PathId};
+use wesl_link_symbols::keyed;
+use wesl_link_symbols::symbols::{LookUp, Symbol};
+use wesl_link_symbols::table::Table;
+
+/// What is held, in the order in which it was found, and where each stands: of each who asked for it first.
+#[derive(Drop)]
+pub struct HeldNodes {
+    pub nodes: Vec<Found>,
+    places: HashMap<Node<PathId, NameId>, usize>,
+}
+
+/// A search for what is held, and the look-ups that were followed.
+#[derive(Drop)]
+struct Search {
+    held: HeldNodes,
+    followed: HashMap<LookUp<PathId, NameId>, usize>,
+}
+
+impl HeldNodes {
+    /// Nothing. It takes no memory.
+    fn new(alloc: Global) -> HeldNodes {
+        HeldNodes {
+            nodes: Vec::new(alloc),
+            places: HashMap::new(alloc),
+        }
+    }
+
+    /// Where a node stands, if it is held.
+    pub fn place_of(&self, node: Node<PathId, NameId>) -> Option<usize> {
+        keyed::value_at(&self.places, node)
+    }
+
+    /// Adds a node that was asked for, unless it is there.
+    fn note(&mut self, node: Node<PathId, NameId>, asker: Option<usize>) -> Result<(), AllocError> {
+        if self.place_of(node).is_some() {
+            return Ok(());
+        }
+        keyed::put(&mut self.places, node, self.nodes.len())?;
+        self.nodes.push(Found { node, asker })?;
+        Ok(())
+    }
+
+    /// Adds the names that are kept, and the root's module.
+    fn note_first(&mut self, given: &Given<'_>) -> Result<(), AllocError> {
+        self.note(Node::Module(given.root), None)?;
+        for name in given.kept {
+            self.note(Node::KeptName(*name), None)?;
+        }
+        Ok(())
+    }
+
+    /// Adds the modules that a module imports from.
+    fn note_imports(&mut self, table: &Table, asker: usize) -> Result<(), AllocError> {
+        for import in table.imports() {
+            self.note(Node::Module(import.path), Some(asker))?;
+        }
+        Ok(())
+    }
+
+    /// Adds the symbol of a name, where there is a name.
+    fn note_named(
+        &mut self,
+        path: PathId,
+        name: Option<NameId>,
+        asker: usize,
+    ) -> Result<(), AllocError> {
+        match name {
+            Some(name) => self.note(Node::Item(Symbol { path, name }), Some(asker)),
+            None => Ok(()),
+        }
+    }
+
+    /// Adds the symbols that a module declares.
+    fn note_declared(&mut self, table: &Table, asker: usize) -> Result<(), AllocError> {
+        for declaration in table.declarations() {
+            self.note_named(table.path(), declaration.name(), asker)?;
+        }
+        Ok(())
+    }
+
+    /// Adds what the way of a look-up brings: the modules that it comes to.
+    fn note_modules(
+        &mut self,
+        look_ups: &[LookUp<PathId, NameId>],
+        asker: usize,
+    ) -> Result<(), AllocError> {
+        for look_up in look_ups {
+            self.note(Node::Module(look_up.path), Some(asker))?;
+        }
+        Ok(())
+    }
+}
+
+impl Search {
+    /// Follows a look-up of the node at a place.
+    fn walk(
+        &mut self,
+        alloc: Global,
+        given: &Given<'_>,
+        place: usize,
+        start: LookUp<PathId, NameId>,
+    ) -> Result<(), AllocError>
+        requires ready { IsReady given.now }
+    {
+        let way = way_of(alloc, given, start)?;
+        self.held.note_modules(&way.look_ups, place)?;
+        if let Some(symbol) = way.symbol {
+            self.held.note(Node::Item(symbol), Some(place))?;
+        }
+        Ok(())
+    }
+
+    /// Follows a look-up of the node at a place, unless it was followed before.
+    fn follow(
+        &mut self,
+        alloc: Global,
+        given: &Given<'_>,
+        place: usize,
+        start: LookUp<PathId, NameId>,
+    ) -> Result<(), AllocError>
+        requires ready { IsReady given.now }
+    {
+        if keyed::value_at(&self.followed, start).is_some() {
+            return Ok(());
+        }
+        keyed::put(&mut self.followed, start, place)?;
+        self.walk(alloc, given, place, start)
+    }
+
+    /// Follows the references of a declaration.
+    fn follow_references(
+        &mut self,
+        alloc: Global,
+        given: &Given<'_>,
+        place: usize,
+        table: &Table,
+        index: usize,
+    ) -> Result<(), AllocError>
+        requires ready { IsReady given.now }
+    {
+        let Some(declaration) = table.declarations().get(index) else {
+            return Ok(());
+        };
+        for reference in declaration.references() {
+            self.follow(alloc, given, place, ask(table, reference))?;
+        }
+        Ok(())
+    }
+
+    /// Follows what the declarations of a name ask for in a module, or where there is none its const_asserts.
+    fn follow_named(
+        &mut self,
+        alloc: Global,
+        given: &Given<'_>,
+        place: usize,
+        table: &Table,
+        name: Option<NameId>,
+    ) -> Result<(), AllocError>
+        requires ready { IsReady given.now }
+    {
+        let mut at = table.latest_of(name);
+        'declarations: while let Some(index) = at {
+            self.follow_references(alloc, given, place, table, index)?;
+            at = table.earlier_of(index, name);
+        }
+        Ok(())
+    }
+
+    /// Follows what the declarations of a name ask for in the module at a path, or where there is none its const_asserts.
+    fn take_named(
+        &mut self,
+        alloc: Global,
+        given: &Given<'_>,
+        place: usize,
+        path: PathId,
+        name: Option<NameId>,
+    ) -> Result<(), AllocError>
+        requires ready { IsReady given.now }
+    {
+        match given.table(path) {
+            Some(table) => self.follow_named(alloc, given, place, table, name),
+            None => Ok(()),
+        }
+    }
+
+    /// Takes what an eager link takes with the module at a path.
+    fn take_whole(
+        &mut self,
+        given: &Given<'_>,
+        place: usize,
+        path: PathId,
+    ) -> Result<(), AllocError>
+        requires ready { IsReady given.now }
+    {
+        match given.table(path) {
+            Some(table) if given.is_eager => {
+                self.held.note_imports(table, place)?;
+                self.held.note_declared(table, place)
+            }
+            _ => Ok(()),
+        }
+    }
+
+    /// Takes a module that is held.
+    fn take_module(
+        &mut self,
+        alloc: Global,
+        given: &Given<'_>,
+        place: usize,
+        path: PathId,
+    ) -> Result<(), AllocError>
+        requires ready { IsReady given.now }
+    {
+        self.take_named(alloc, given, place, path, None)?;
+        self.take_whole(given, place, path)
+    }
+
+    /// Takes the node at a place.
+    fn take(
+        &mut self,
+        alloc: Global,
+        given: &Given<'_>,
+        place: usize,
+        node: Node<PathId, NameId>,
+    ) -> Result<(), AllocError>
+        requires ready { IsReady given.now }
+    {
+        match node {
+            Node::KeptName(name) => self.follow(
+                alloc,
+                given,
+                place,
+                LookUp {
+                    asker: None,
+                    path: given.root,
+                    name,
+                    from: Place::Always,
+                },
+            ),
+            Node::Module(path) => self.take_module(alloc, given, place, path),
+            Node::Item(symbol) => {
+                self.take_named(alloc, given, place, symbol.path, Some(symbol.name))
+            }
+        }
+    }
+
+    /// Takes each node that is found until all are taken.
+    fn take_all(&mut self, alloc: Global, given: &Given<'_>) -> Result<(), AllocError>
+        requires ready { IsReady given.now }
+    {
+        for place in 0..usize::MAX {
+            let Some(found) = self.held.nodes.get(place) else {
+                return Ok(());
+            };
+            let node = found.node;
+            self.take(alloc, given, place, node)?;
+        }
+        Ok(())
+    }
+}
+
+/// What is held in a world of modules, each with who asked for it first.
+pub fn held_nodes(alloc: Global, given: &Given<'_>) -> Result<HeldNodes, AllocError>
+    requires ready { IsReady given.now }
+{
+    let mut search = Search {
+        held: HeldNodes::new(alloc),
+        followed: HashMap::new(alloc),
+    };
+    search.held.note_first(given)?;
+    search.take_all(alloc, given)?;
+    let Search { held, followed: _ } = search;
+    Ok(held)
+}
+
+/// Adds the node at a place, who asked for it, who asked for that one, and so on.
+fn add_askers(
+    nodes: &[Found],
+    place: usize,
+    chain: &mut Vec<Node<PathId, NameId>>,
+) -> Result<(), AllocError> {
+    let mut at = Some(place);
+    for _ in 0..nodes.len() {
+        let Some(index) = at else {
+            return Ok(());
+        };
+        let Some(found) = nodes.get(index) else {
+            return Ok(());
+        };
+        chain.push(found.node)?;
+        at = found.asker;
+    }
+    Ok(())
+}
+
+/// The chain from what is kept, or from the root's module, to the node at a place.
+pub fn chain_in(
+    alloc: Global,
+    nodes: &[Found],
+    place: usize,
+) -> Result<Vec<Node<PathId, NameId>>, AllocError> {
+    let mut chain = Vec::new(alloc);
+    add_askers(nodes, place, &mut chain)?;
+    chain.reverse();
+    Ok(chain)
+}

@@ -1,0 +1,29 @@
+//! A refused link, told by the numbers of its symbol tables: each of its faults with who asks for it and through whom, the
+//! names that are near, what a name may stand for, and what helps.
+#![tactic(auto)]
+
+mod conditions;
+mod cures;
+mod faults;
+mod held;
+mod modules;
+mod names;
+mod near;
+mod refused;
+mod targets;
+mod texts;
+mod uses;
+mod way;
+
+pub use cures::FaultCure;
+pub use faults::{FaultAt, Wrong, faults_at};
+pub use held::{HeldNodes, chain_in, held_nodes};
+pub use modules::{ReadModule, ReadModules};
+pub use near::{Near, NearNames};
+pub use refused::{HeldUntil, LinkFault, RefusedLink, refused_link};
+pub use targets::Target;
+pub use texts::Texts;
+pub use uses::Use;
+pub use way::{Way, way_of};
+pub use wesl_link_faults::asker::Asker;
+pub use wesl_link_faults::told::Flaw;

@@ -1,0 +1,282 @@
+//! Names that are near to one that is not there.
+
+use crate::texts::Texts;
+use std::alloc::{AllocError, Global};
+use strsim::levenshtein;
+use wesl_link_symbols::ids::{NameId, PathId};
+use wesl_link_symbols::symbols::Symbol;
+use wesl_link_symbols::table::Table;
+
+// How many edits may lead from one name to the other, and how many where the name has three letters or fewer.
+const EDITS: usize = 2;
+
+const FEW_EDITS: usize = 1;
+
+const FEW_LETTERS: usize = 3;
+
+// A longer name is not compared.
+const LONGEST: usize = 64;
+
+// How many names are looked at in all, and how many of them are compared letter by letter.
+const LOOKS: usize = 4_000_000;
+
+const COMPARISONS: usize = 50_000;
+
+/// A path of a list by its number, and how many edits lead to it.
+#[derive(Clone, Copy)]
+struct NearPath {
+    number: usize,
+    edits: usize,
+}
+
+/// A declared name, and how many edits lead to it.
+#[derive(Clone, Copy)]
+pub struct Near {
+    pub symbol: Symbol<PathId, NameId>,
+    pub edits: usize,
+}
+
+/// A name that is looked for.
+#[derive(Clone, Copy)]
+struct Wanted<'w> {
+    text: &'w str,
+    letters: usize,
+    /// how many edits may lead to a name that is near
+    edits: usize,
+}
+
+/// Looks for near names. It looks at a fixed number of names in all, and finds none after that.
+#[derive(Drop)]
+pub struct NearNames {
+    looks: usize,
+    comparisons: usize,
+}
+
+/// How many letters a name has.
+fn letters_in(text: &str) -> usize {
+    text.chars().count()
+}
+
+impl<'w> Wanted<'w> {
+    fn new(text: &'w str) -> Wanted<'w> {
+        let letters = letters_in(text);
+        let edits = if letters <= FEW_LETTERS {
+            FEW_EDITS
+        } else {
+            EDITS
+        };
+        Wanted {
+            text,
+            letters,
+            edits,
+        }
+    }
+
+    /// Whether a name is so long that it may be near. Each letter has four bytes at most.
+    fn may_be(&self, text: &str) -> bool {
+        text.len().abs_diff(self.text.len()) <= 4 * EDITS
+            && self.text.len() <= LONGEST
+            && letters_in(text).abs_diff(self.letters) <= self.edits
+    }
+
+    /// Whether a name with so many letters is near, to which so many edits lead: more than one letter stays.
+    fn is_near(&self, letters: usize, edits: usize) -> bool {
+        let longest = if letters < self.letters {
+            self.letters
+        } else {
+            letters
+        };
+        edits <= self.edits && longest.saturating_sub(edits) > 1
+    }
+}
+
+/// Whether so many edits are fewer than lead to the nearest so far.
+fn is_nearer(best: Option<Near>, edits: usize) -> bool {
+    match best {
+        Some(near) => edits < near.edits,
+        None => true,
+    }
+}
+
+impl NearNames {
+    /// No name was looked at.
+    pub fn new() -> NearNames {
+        NearNames {
+            looks: LOOKS,
+            comparisons: COMPARISONS,
+        }
+    }
+
+    /// Takes a look, unless there is none left.
+    fn takes_look(&mut self) -> bool {
+        match self.looks.checked_sub(1) {
+            Some(left) => {
+                self.looks = left;
+                true
+            }
+            None => false,
+        }
+    }
+
+    /// Takes a comparison, unless there is none left.
+    fn takes_comparison(&mut self) -> bool {
+        match self.comparisons.checked_sub(1) {
+            Some(left) => {
+                self.comparisons = left;
+                true
+            }
+            None => false,
+        }
+    }
+
+    /// The nearer of the one so far and a name.
+    fn nearer(
+        &mut self,
+        alloc: Global,
+        texts: &Texts,
+        wanted: Wanted<'_>,
+        best: Option<Near>,
+        symbol: Symbol<PathId, NameId>,
+    ) -> Result<Option<Near>, AllocError> {
+        let own = texts.name(symbol.name);
+        if !self.takes_look() || !wanted.may_be(own) || !self.takes_comparison() {
+            return Ok(best);
+        }
+        let edits = levenshtein(alloc, wanted.text, own)?;
+        if wanted.is_near(letters_in(own), edits) && is_nearer(best, edits) {
+            Ok(Some(Near { symbol, edits }))
+        } else {
+            Ok(best)
+        }
+    }
+
+    /// The nearest of the one so far and the names that a module declares.
+    fn declared(
+        &mut self,
+        alloc: Global,
+        texts: &Texts,
+        wanted: Wanted<'_>,
+        so_far: Option<Near>,
+        table: &Table,
+    ) -> Result<Option<Near>, AllocError> {
+        let path = table.path();
+        let mut best = so_far;
+        for declaration in table.declarations() {
+            if let Some(name) = declaration.name() {
+                best = self.nearer(alloc, texts, wanted, best, Symbol { path, name })?;
+            }
+        }
+        Ok(best)
+    }
+
+    /// The nearest of the one so far and the names that a module publishes as imports.
+    fn published(
+        &mut self,
+        alloc: Global,
+        texts: &Texts,
+        wanted: Wanted<'_>,
+        so_far: Option<Near>,
+        table: &Table,
+    ) -> Result<Option<Near>, AllocError> {
+        let path = table.path();
+        let mut best = so_far;
+        for import in table.imports() {
+            if import.published {
+                let name = import.bound;
+                best = self.nearer(alloc, texts, wanted, best, Symbol { path, name })?;
+            }
+        }
+        Ok(best)
+    }
+
+    /// The nearest of the one so far and the names that a module declares, if one is near.
+    pub fn nearest_declared(
+        &mut self,
+        alloc: Global,
+        texts: &Texts,
+        wanted: &str,
+        so_far: Option<Near>,
+        table: &Table,
+    ) -> Result<Option<Near>, AllocError> {
+        self.declared(alloc, texts, Wanted::new(wanted), so_far, table)
+    }
+
+    /// The nearest of the names that a module declares or publishes, if one is near.
+    pub fn nearest_seen(
+        &mut self,
+        alloc: Global,
+        texts: &Texts,
+        wanted: &str,
+        table: &Table,
+    ) -> Result<Option<Near>, AllocError> {
+        let wanted = Wanted::new(wanted);
+        let declared = self.declared(alloc, texts, wanted, None, table)?;
+        self.published(alloc, texts, wanted, declared, table)
+    }
+
+    /// The one of these modules that declares just that name, where one alone does.
+    pub fn only_declared(
+        &mut self,
+        tables: &[Table],
+        name: NameId,
+    ) -> Option<Symbol<PathId, NameId>> {
+        let mut found = None;
+        for table in tables {
+            if !self.takes_look() {
+                return None;
+            }
+            if table.declares(name) {
+                if found.is_some() {
+                    return None;
+                }
+                found = Some(Symbol {
+                    path: table.path(),
+                    name,
+                });
+            }
+        }
+        found
+    }
+
+    /// The nearer of the one so far and a path.
+    fn nearer_path(
+        &mut self,
+        alloc: Global,
+        wanted: Wanted<'_>,
+        best: Option<NearPath>,
+        number: usize,
+        text: &str,
+    ) -> Result<Option<NearPath>, AllocError> {
+        if !self.takes_look() || !wanted.may_be(text) || !self.takes_comparison() {
+            return Ok(best);
+        }
+        let edits = levenshtein(alloc, wanted.text, text)?;
+        let least = match best {
+            Some(near) => near.edits,
+            None => EDITS + 1,
+        };
+        if edits < least {
+            Ok(Some(NearPath { number, edits }))
+        } else {
+            Ok(best)
+        }
+    }
+
+    /// The nearest of these paths by its number, if one is near.
+    pub fn nearest_path(
+        &mut self,
+        alloc: Global,
+        wanted: &str,
+        listed: &[String],
+    ) -> Result<Option<usize>, AllocError> {
+        let wanted = Wanted::new(wanted);
+        let mut best = None;
+        for (number, text) in listed.iter().enumerate() {
+            best = self.nearer_path(alloc, wanted, best, number, text.as_str())?;
+        }
+        match best {
+            Some(near) => Ok(Some(near.number)),
+            None => Ok(None),
+        }
+    }
+}

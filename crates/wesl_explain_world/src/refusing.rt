@@ -1,0 +1,485 @@
+//! Why a link is refused: all its faults, with who asks for each.
+ghost use Rattle.std.specs.Prelude.{◌≡◌, ◌<◌, false, vec_len, IfOk, IfSome};
+ghost use Rattle.wesl_link_reach.specs.Laws.{IsClear};
+ghost use Rattle.wesl_tree_names.specs.Path.{path_view, is_relative};
+ghost use Rattle.wesl_explain_world.specs.Explained.{TellsFaults};
+
+use crate::explanation::{Explanation, Fault, FaultLine};
+use crate::faults::{condition_faults, fault_line_of, fault_of};
+use crate::loading::TableLoader;
+use crate::sources::Sources;
+use crate::world::{kept_names, root_table};
+use std::alloc::{AllocError, Global};
+use wesl_explain_faults::{
+    Asker, FaultCure, Flaw, HeldUntil, LinkFault, NearNames, ReadModules, RefusedLink, Texts, Use,
+    Wrong, refused_link,
+};
+use wesl_link::LinkRequest;
+use wesl_link_faults::absence::Absence;
+use wesl_link_faults::open::{OpenError, Opened};
+use wesl_link_faults::open_table;
+use wesl_link_symbols::ids::{NameId, PathId};
+use wesl_link_symbols::table::Table;
+use wesl_program_bundle::BundleModule;
+use wesl_tree::{Diagnostic, Error, ImportError, ModulePath, ResolveError};
+
+/// What was found when a link went on behind its faults.
+type Found = Opened<ResolveError>;
+
+/// The texts of the paths of a bundle's modules.
+pub fn listed_paths(
+    alloc: Global,
+    modules: &[BundleModule<'_>],
+) -> Result<Vec<String>, AllocError> {
+    let mut listed = Vec::with_capacity(alloc, modules.len())?;
+    for module in modules {
+        listed.push(module.path.to_text(alloc).ok().ok_or(AllocError)?)?;
+    }
+    Ok(listed)
+}
+
+/// A copy of the path of a number.
+fn path_of(alloc: Global, texts: &Texts, path: PathId) -> Result<ModulePath, AllocError> {
+    match texts.module(path) {
+        Some(module) => module.try_clone(alloc).ok().ok_or(AllocError),
+        None => Err(AllocError),
+    }
+}
+
+/// The error of a name that is wrong in a module.
+fn error_of_name(
+    alloc: Global,
+    texts: &Texts,
+    flaw: Flaw<NameId>,
+    at: PathId,
+    max_modules: usize,
+) -> Result<Error, AllocError> {
+    let path = path_of(alloc, texts, at)?;
+    match flaw {
+        Flaw::NoModule => Ok(Error::ModuleLimit(max_modules)),
+        Flaw::Clash(name) => {
+            let name = String::from_str(alloc, texts.name(name))?;
+            Ok(Error::Import(ImportError::DuplicateSymbol(name)))
+        }
+        Flaw::Lacking(name) => {
+            let name = String::from_str(alloc, texts.name(name))?;
+            Ok(Error::Import(ImportError::MissingDecl(path, name)))
+        }
+        Flaw::Hidden(name) => {
+            let name = String::from_str(alloc, texts.name(name))?;
+            Ok(Error::Import(ImportError::Private(name, path)))
+        }
+        Flaw::Unsure(name) => {
+            let name = String::from_str(alloc, texts.name(name))?;
+            Ok(Error::Import(ImportError::AmbiguousSymbol(name)))
+        }
+    }
+}
+
+/// The error of a path without a module.
+fn error_of_absence(
+    alloc: Global,
+    texts: &Texts,
+    at: PathId,
+    absence: Absence<ResolveError>,
+) -> Result<Error, AllocError> {
+    match absence {
+        Absence::TurnedAway(refusal) => Ok(Error::of_resolve(refusal)),
+        Absence::Crowded => {
+            let path = path_of(alloc, texts, at)?;
+            Ok(Error::Import(ImportError::TooManyFlags(path)))
+        }
+    }
+}
+
+/// What helps where no module is at a path.
+fn cures_of_absence(error: &Error) -> Option<FaultCure> {
+    match error {
+        Error::ModuleLimit(_) => Some(FaultCure::MaxModules),
+        Error::Import(ImportError::TooManyFlags(_)) => Some(FaultCure::Features),
+        Error::Import(ImportError::ResolveError(refusal)) => cure_of_refusal(refusal),
+        _ => None,
+    }
+}
+
+/// What helps where a resolver refuses a path.
+fn cure_of_refusal(refusal: &ResolveError) -> Option<FaultCure> {
+    match refusal {
+        ResolveError::ModuleNotFound(_, _) => Some(FaultCure::Path),
+        ResolveError::Error(diagnostic) => match &diagnostic.error {
+            Error::CondComp(_) => Some(FaultCure::Condition),
+            _ => None,
+        },
+        _ => None,
+    }
+}
+
+/// The absence with a number.
+fn take_absence(
+    absences: &mut Vec<Absence<ResolveError>>,
+    number: Option<usize>,
+) -> Option<Absence<ResolveError>> {
+    let place = number?;
+    match absences.get_mut(place) {
+        Some(absence) => Some(std::mem::replace(absence, Absence::Crowded)),
+        None => None,
+    }
+}
+
+/// What is known beside the faults themselves.
+#[derive(Drop)]
+struct Around<'a, 't> {
+    texts: &'a Texts,
+    sources: &'a mut Sources<'t>,
+    /// the texts of the paths of the bundle's modules
+    listed: &'a [String],
+    max_modules: usize,
+}
+
+/// Whether a fault is that no module is at a path.
+fn is_not_found(error: &Error) -> bool {
+    match error {
+        Error::Import(ImportError::ResolveError(ResolveError::ModuleNotFound(_, _))) => true,
+        _ => false,
+    }
+}
+
+/// A listed path with a number.
+fn listed_at(
+    alloc: Global,
+    listed: &[String],
+    number: Option<usize>,
+) -> Result<Option<String>, AllocError> {
+    match number {
+        Some(number) => match listed.get(number) {
+            Some(text) => Ok(Some(text.clone()?)),
+            None => Ok(None),
+        },
+        None => Ok(None),
+    }
+}
+
+/// The path of a module of the bundle whose name is that of an item that is asked for in the module at a path.
+fn named_module(
+    alloc: Global,
+    texts: &Texts,
+    listed: &[String],
+    link: &LinkFault,
+) -> Result<Option<String>, AllocError> {
+    let Some(last) = link.way.last() else {
+        return Ok(None);
+    };
+    let mut wanted = String::from_str(alloc, texts.path(last.path))?;
+    wanted.push_str("::")?;
+    wanted.push_str(texts.name(last.name))?;
+    for path in listed {
+        if *path == wanted {
+            return Ok(Some(wanted));
+        }
+    }
+    Ok(None)
+}
+
+/// The diagnostic of a fault: a name that is wrong is told with its module.
+fn diagnostic_of(
+    alloc: Global,
+    texts: &Texts,
+    wrong: Wrong,
+    error: Error,
+) -> Result<Diagnostic, AllocError> {
+    let mut diagnostic = Diagnostic::of(error);
+    if wrong.flaw != Flaw::NoModule {
+        diagnostic.module = Some(path_of(alloc, texts, wrong.at)?);
+    }
+    Ok(diagnostic)
+}
+
+/// The error of a fault.
+fn error_of(
+    alloc: Global,
+    around: &Around<'_, '_>,
+    absences: &mut Vec<Absence<ResolveError>>,
+    link: &LinkFault,
+) -> Result<Error, AllocError> {
+    let at = link.wrong.at;
+    match take_absence(absences, link.absence) {
+        Some(absence) => error_of_absence(alloc, around.texts, at, absence),
+        None => error_of_name(alloc, around.texts, link.wrong.flaw, at, around.max_modules),
+    }
+}
+
+/// The faults of the conditions of a module that is refused.
+fn conditions_at(
+    alloc: Global,
+    around: &mut Around<'_, '_>,
+    link: &LinkFault,
+) -> Result<Vec<FaultLine>, AllocError> {
+    if link.absence.is_none() {
+        return Ok(Vec::new(alloc));
+    }
+    let path = path_of(alloc, around.texts, link.wrong.at)?;
+    condition_faults(alloc, around.sources, &path)
+}
+
+/// All that is told of a fault of a link.
+fn link_fault(
+    alloc: Global,
+    around: &mut Around<'_, '_>,
+    near: &mut NearNames,
+    absences: &mut Vec<Absence<ResolveError>>,
+    link: LinkFault,
+) -> Result<Fault, AllocError> {
+    let mut link = link;
+    let error = error_of(alloc, around, absences, &link)?;
+    if let Some(cure) = cures_of_absence(&error) {
+        link.cures.push(cure)?;
+    }
+    let near_path = if is_not_found(&error) {
+        let wanted = around.texts.path(link.wrong.at);
+        near.nearest_path(alloc, wanted, around.listed)?
+    } else {
+        None
+    };
+    let near_path = listed_at(alloc, around.listed, near_path)?;
+    let named_module = named_module(alloc, around.texts, around.listed, &link)?;
+    let conditions = conditions_at(alloc, around, &link)?;
+    let diagnostic = diagnostic_of(alloc, around.texts, link.wrong, error)?;
+    Ok(Fault {
+        line: fault_line_of(alloc, diagnostic)?,
+        link: Some(link),
+        conditions,
+        near_path,
+        named_module,
+    })
+}
+
+/// All that is told of the faults of a link.
+fn link_faults(
+    alloc: Global,
+    around: &mut Around<'_, '_>,
+    absences: &mut Vec<Absence<ResolveError>>,
+    found: Vec<LinkFault>,
+) -> Result<Vec<Fault>, AllocError> {
+    let mut near = NearNames::new();
+    let mut faults = Vec::with_capacity(alloc, found.len())?;
+    for link in found {
+        faults.push(link_fault(alloc, around, &mut near, absences, link)?)?;
+    }
+    Ok(faults)
+}
+
+/// A fault of the root itself.
+fn root_fault(alloc: Global, root: PathId) -> Result<LinkFault, AllocError> {
+    let mut uses = Vec::new(alloc);
+    uses.push(Use {
+        asker: Asker::Whole(root),
+        name: None,
+        identifier: None,
+        span: None,
+        place: Some(0),
+    })?;
+    Ok(LinkFault {
+        wrong: Wrong {
+            flaw: Flaw::NoModule,
+            at: root,
+        },
+        absence: None,
+        uses,
+        way: Vec::new(alloc),
+        ring: Vec::new(alloc),
+        near: None,
+        targets: Vec::new(alloc),
+        cures: Vec::new(alloc),
+    })
+}
+
+/// What is found when a link goes on behind its faults, and the names that are kept: nothing where there is no root to begin
+/// with.
+fn opened_link(
+    alloc: Global,
+    request: &LinkRequest<'_>,
+    loader: &mut TableLoader<'_>,
+) -> Result<Option<(Found, Vec<NameId>)>, AllocError>
+    requires { is_relative (path_view request.now.root.now) ≡ false }
+    ensures { IfOk result (λ found. IfSome found (λ f. IsClear f.0.tables.items)) }
+{
+    let root = match root_table(alloc, loader, request.root) {
+        Ok(root) => root,
+        Err(Error::Memory) => return Err(AllocError),
+        Err(_) => return Ok(None),
+    };
+    let kept = kept_names(alloc, loader, request)?;
+    let kept_again = Vec::from_slice(alloc, &kept)?;
+    match open_table(
+        alloc,
+        root,
+        kept_again,
+        request.is_eager,
+        loader,
+        request.max_modules,
+    ) {
+        Ok(found) => Ok(Some((found, kept))),
+        Err(OpenError::Memory) => Err(AllocError),
+        Err(_) => Ok(None),
+    }
+}
+
+/// The explanation of a refused link: its faults, what was held until then, and the texts of the numbers.
+fn with_faults(
+    alloc: Global,
+    texts: Texts,
+    faults: Vec<Fault>,
+    until: HeldUntil,
+) -> Result<Explanation, AllocError>
+    requires { 0 < vec_len faults }
+    ensures { IfOk result TellsFaults }
+{
+    let (names, paths) = texts.into_lists(alloc)?;
+    let mut told = Explanation::nothing(alloc);
+    told.names = names;
+    told.paths = paths;
+    told.faults = faults;
+    told.until = Some(until);
+    Ok(told)
+}
+
+/// The faults of a link: the one that it was refused with where no other was found.
+fn faults_or(
+    alloc: Global,
+    around: &mut Around<'_, '_>,
+    absences: &mut Vec<Absence<ResolveError>>,
+    found: Vec<LinkFault>,
+    diagnostic: Diagnostic,
+) -> Result<Vec<Fault>, AllocError>
+    ensures { IfOk result (λ faults. 0 < vec_len faults) }
+{
+    let mut faults = link_faults(alloc, around, absences, found)?;
+    if faults.is_empty() {
+        faults.push(fault_of(alloc, diagnostic)?)?;
+    }
+    Ok(faults)
+}
+
+/// What was loaded, and the names and paths of it.
+#[derive(Drop)]
+struct Loaded<'t> {
+    sources: Sources<'t>,
+    texts: Texts,
+    read: ReadModules,
+}
+
+/// What a loader has loaded.
+fn loaded_of(alloc: Global, loader: TableLoader<'_>) -> Result<Loaded<'_>, AllocError> {
+    let TableLoader {
+        sources,
+        numbers,
+        read,
+    } = loader;
+    Ok(Loaded {
+        sources,
+        texts: Texts::new(alloc, numbers)?,
+        read: match read {
+            Some(read) => read,
+            None => ReadModules::new(alloc),
+        },
+    })
+}
+
+/// What is told of a link in which this was found.
+fn explain_found(
+    alloc: Global,
+    request: &LinkRequest<'_>,
+    diagnostic: Diagnostic,
+    loaded: Loaded<'_>,
+    listed: &[String],
+    root: PathId,
+    found: Found,
+    kept: &[NameId],
+) -> Result<Explanation, AllocError>
+    requires { IsClear found.tables.items }
+    ensures { IfOk result TellsFaults }
+{
+    let Loaded {
+        mut sources,
+        texts,
+        read,
+    } = loaded;
+    let Opened {
+        tables,
+        asked: _,
+        mut absences,
+        told,
+        beyond: _,
+    } = found;
+    let link = refused_link(
+        alloc,
+        &tables,
+        &told,
+        root,
+        kept,
+        request.is_eager,
+        &texts,
+        &read,
+    )?;
+    let RefusedLink { faults, until } = link;
+    let mut around = Around {
+        texts: &texts,
+        sources: &mut sources,
+        listed,
+        max_modules: request.max_modules,
+    };
+    let faults = faults_or(alloc, &mut around, &mut absences, faults, diagnostic)?;
+    with_faults(alloc, texts, faults, until)
+}
+
+/// What is told where there is no root to begin with.
+fn explain_root(
+    alloc: Global,
+    request: &LinkRequest<'_>,
+    diagnostic: Diagnostic,
+    loaded: Loaded<'_>,
+    root: PathId,
+) -> Result<Explanation, AllocError>
+    ensures { IfOk result TellsFaults }
+{
+    let Loaded {
+        mut sources,
+        texts,
+        read,
+    } = loaded;
+    let link = refused_link(alloc, &[], &[], root, &[], request.is_eager, &texts, &read)?;
+    let RefusedLink { faults: _, until } = link;
+    let conditions = condition_faults(alloc, &mut sources, request.root)?;
+    let mut faults = Vec::new(alloc);
+    faults.push(Fault {
+        line: fault_line_of(alloc, diagnostic)?,
+        link: Some(root_fault(alloc, root)?),
+        conditions,
+        near_path: None,
+        named_module: None,
+    })?;
+    with_faults(alloc, texts, faults, until)
+}
+
+/// What is told of a link that is refused: all its faults. Where memory was short in it, that alone is told.
+pub fn explain_refusal(
+    alloc: Global,
+    request: &LinkRequest<'_>,
+    diagnostic: Diagnostic,
+    sources: Sources<'_>,
+    listed: &[String],
+) -> Result<Explanation, AllocError>
+    requires { is_relative (path_view request.now.root.now) ≡ false }
+    ensures { IfOk result TellsFaults }
+{
+    let mut loader = TableLoader::new(alloc, sources, true);
+    let root = loader.numbers.path(alloc, request.root)?;
+    let found = opened_link(alloc, request, &mut loader)?;
+    let loaded = loaded_of(alloc, loader)?;
+    match found {
+        Some((found, kept)) => explain_found(
+            alloc, request, diagnostic, loaded, listed, root, found, &kept,
+        ),
+        None => explain_root(alloc, request, diagnostic, loaded, root),
+    }
+}
