@@ -1,79 +1,104 @@
-//! The program `wesl-text`: shader text on standard input, read and told.
-//!
-//! `--tree` tells the unit that the text says as JSON in the form with places, or the fault as `{"fault":..,"start":..}`; `--print` as
-//! shader text; `--check` tells nothing but a fault. `--trees` reads a JSON array of texts, and tells of each what `--tree` tells, on a
-//! line of its own.
+//! The program `wesl-text`: links a folder of WESL files and prints the linked unit as WGSL.
 #![tactic(auto)]
 
-mod telling;
+mod colors;
+mod depfile;
+mod running;
+mod wishes;
 mod words;
 
-use crate::telling::{Told, checked, no_text, printed, tree, trees};
-use crate::words::{Wish, wish_of};
-use std::alloc::{AllocError, Global};
-use std::io::{Read, Write};
+use crate::colors::{colored, is_colored};
+use crate::running::{Outcome, outcome_of};
+use crate::wishes::Stop;
+use crate::words::command;
+use clap::ArgMatches;
+use std::io::Write;
 use std::process::ExitCode;
+use std::{fs, io};
+use wesl_text_project::ProjectFault;
 
-/// Ends with 0 where the text is read, with 1 where it has a fault, and with 2 for wrong words, want of memory, and where a read or a
-/// write failed.
+/// Ends with 0 where the project is linked, with 1 for a fault, with 2 for wrong use, and with 3 where a text was written that is not
+/// what the modules mean.
 fn main(rt: HostRuntime) -> ExitCode {
     let alloc = rt.alloc();
-    let Some(wish) = words_of(&rt) else {
-        let _ = eprintln!(rt; "wesl-text: expected --tree, --trees, --print or --check");
-        return ExitCode::from(2);
-    };
-    let mut bytes = Vec::new(alloc);
-    if rt.stdin().read_to_end(&mut bytes).is_err() {
-        let _ = eprintln!(rt; "wesl-text: the text cannot be read");
-        return ExitCode::from(2);
-    }
-    match told_of_bytes(alloc, wish, bytes.as_slice()) {
-        Ok(told) => write(&told, &mut rt.stdout()),
-        Err(_) => ExitCode::from(2),
-    }
-}
-
-// What is told of bytes, which may be no text.
-fn told_of_bytes(alloc: Global, wish: Wish, bytes: &[u8]) -> Result<Told, AllocError> {
-    match std::str::from_utf8(bytes) {
-        Ok(text) => told(alloc, wish, text),
-        Err(_) => no_text(alloc),
-    }
-}
-
-// What is wished by the first word behind the program's name.
-fn words_of(rt: &HostRuntime) -> Option<Wish> {
-    let words: Vec<String> = match std::env::args(rt) {
-        Ok(given) => match given.collect(rt.alloc()) {
+    let words: Vec<String> = match std::env::args(&rt) {
+        Ok(given) => match given.collect(alloc) {
             Ok(words) => words,
-            Err(_) => return None,
+            Err(_) => return ExitCode::from(1),
         },
-        Err(_) => return None,
+        Err(_) => return ExitCode::from(1),
     };
-    match words.as_slice() {
-        [_program, word] => wish_of(word.as_str()),
-        _ => None,
+    let command = match command(alloc) {
+        Ok(command) => command,
+        Err(_) => return ExitCode::from(1),
+    };
+    match command.try_get_matches_from(words.as_slice()) {
+        Ok(matches) => run(&rt, &matches),
+        Err(error) => {
+            let is_mistake = error.use_stderr();
+            match error.print(&rt) {
+                Ok(()) if !is_mistake => ExitCode::SUCCESS,
+                _ => ExitCode::from(2),
+            }
+        }
     }
 }
 
-// What is told of a text.
-fn told(alloc: Global, wish: Wish, text: &str) -> Result<Told, AllocError> {
-    match wish {
-        Wish::Tree => tree(alloc, text),
-        Wish::Trees => trees(alloc, text),
-        Wish::Print => printed(alloc, text),
-        Wish::Check => checked(alloc, text),
+// Links, and writes what came of it.
+fn run(rt: &HostRuntime, matches: &ArgMatches<'_>) -> ExitCode {
+    match outcome_of(rt, matches) {
+        Ok(outcome) => write(rt, matches, &outcome),
+        Err(Stop::Use(text)) => {
+            let _ = eprintln!(rt; "wesl-text: {text}");
+            ExitCode::from(2)
+        }
+        Err(Stop::Fault(fault)) => {
+            tell(rt, matches, &fault);
+            ExitCode::from(1)
+        }
     }
 }
 
-// Writes what is told.
-fn write<W: Write>(told: &Told, out: &mut W) -> ExitCode {
-    if out.write_all(told.text.as_bytes()).is_err() {
-        return ExitCode::from(2);
+// Tells a fault.
+fn tell(rt: &HostRuntime, matches: &ArgMatches<'_>, fault: &ProjectFault) {
+    let _ = match fault {
+        ProjectFault::Project(text) => eprintln!(rt; "wesl-text: {text}"),
+        ProjectFault::Module(lines) => tell_lines(rt, matches, lines.as_str()),
+        ProjectFault::Memory => eprintln!(rt; "wesl-text: there was no memory"),
+    };
+}
+
+// Tells lines with places.
+fn tell_lines(rt: &HostRuntime, matches: &ArgMatches<'_>, lines: &str) -> io::Result<()> {
+    if is_colored(rt, matches) {
+        let lines = colored(rt.alloc(), lines)?;
+        eprintln!(rt; "{lines}")
+    } else {
+        eprintln!(rt; "{lines}")
     }
-    if told.is_read {
+}
+
+// Writes the text, the rule and the warnings.
+fn write(rt: &HostRuntime, matches: &ArgMatches<'_>, outcome: &Outcome) -> ExitCode {
+    let text = outcome.text.as_bytes();
+    let is_written = match matches.get_str("output") {
+        Some(file) => fs::write(rt, file, outcome.text.as_str()).is_ok(),
+        None => rt.stdout().write_all(text).is_ok(),
+    };
+    let is_noted = match matches.get_str("depfile") {
+        Some(file) => fs::write(rt, file, outcome.rule.as_str()).is_ok(),
+        None => true,
+    };
+    if !is_written || !is_noted {
+        let _ = eprintln!(rt; "wesl-text: the text or its depfile cannot be written");
+        return ExitCode::from(1);
+    }
+    for warning in &outcome.warnings {
+        let _ = tell_lines(rt, matches, warning.as_str());
+    }
+    if outcome.is_as_meant {
         ExitCode::SUCCESS
     } else {
-        ExitCode::from(1)
+        ExitCode::from(3)
     }
 }

@@ -1,0 +1,3 @@
+import package::util::two;
+
+const total = two + two;

@@ -1,0 +1,209 @@
+//! From the modules of a project to the text of the linked unit.
+ghost use Rattle.std.specs.Prelude.{◌≡◌, false};
+ghost use Rattle.wesl_tree_names.specs.Path.{path_view, is_relative};
+
+use crate::asking::name_of;
+use crate::modules::{ProjectModules, copy_of};
+use crate::naming::{Naming, named};
+use crate::validity::{Validation, check};
+use std::alloc::{AllocError, Global};
+use std::rt::Files;
+use wesl_link::{Resolutions, resolve_eager, resolve_lazy};
+use wesl_resolve_base::Resolver;
+use wesl_scope::{SyntaxUtil, names_clash};
+use wesl_text::{PrintFault, print_unit};
+use wesl_text_project::{ProjectFault, or_memory};
+use wesl_tree::{Diagnostic, ModulePath, ResolveError, TranslationUnit};
+use wesl_validate_builtins::Builtins;
+
+// How many modules may be loaded, as for a bundle that tells no other number.
+const MOST_MODULES: usize = 1000;
+
+/// What a link is asked for.
+#[derive(Clone, Copy)]
+pub struct LinkWish<'w> {
+    /// The path of the root.
+    pub root: &'w ModulePath,
+    /// The names of the root that are kept; its entry points, where none are told.
+    pub keep: Option<&'w [&'w str]>,
+    /// Whether every import is followed, and all is held that the loaded modules declare.
+    pub is_eager: bool,
+    /// How the names of modules are written.
+    pub naming: Naming,
+    /// Whether those of the root are written so too.
+    pub mangle_root: bool,
+    /// What is asked of the names.
+    pub validation: Validation,
+    /// The names that are built in.
+    pub builtins: &'w Builtins,
+    /// Whether a comment stands before each declaration.
+    pub has_comments: bool,
+}
+
+/// The text of a linked unit, and whether its names would be read otherwise than meant.
+#[derive(Drop)]
+pub struct LinkedText {
+    /// The text.
+    pub text: String,
+    /// Whether its names clash.
+    pub clash: bool,
+    /// The lines that tell which names clash.
+    pub notes: String,
+}
+
+/// Links the modules of a project, and prints the linked unit.
+///
+/// # Errors
+///
+/// The fault of a module, of the link, of a name or of the printed text.
+pub fn linked_text<R: Files + AllocGlobal>(
+    alloc: Global,
+    modules: &mut ProjectModules<'_, R>,
+    wish: &LinkWish<'_>,
+) -> Result<LinkedText, ProjectFault> {
+    if wish.root.is_relative() {
+        return Err(ProjectFault::Project(String::from_str(alloc, "the root's path is relative")?));
+    }
+    let unit = match modules.resolve_module(alloc, wish.root) {
+        Ok(unit) => unit,
+        Err(refusal) => return Err(root_fault(alloc, modules, wish, refusal)),
+    };
+    let keep = kept_names(alloc, &unit, wish)?;
+    let found = match resolutions(alloc, modules, wish, unit, &keep) {
+        Ok(found) => found,
+        Err(diagnostic) => return Err(modules.told(alloc, &diagnostic)),
+    };
+    assembled_text(alloc, modules, wish, found)
+}
+
+// The fault of a root that cannot be had.
+fn root_fault<R>(
+    alloc: Global,
+    modules: &ProjectModules<'_, R>,
+    wish: &LinkWish<'_>,
+    refusal: ResolveError,
+) -> ProjectFault {
+    let is_missing = match &refusal {
+        ResolveError::ModuleNotFound(_, _) => wish.keep.is_none(),
+        _ => false,
+    };
+    if !is_missing {
+        return modules.told_of_refusal(alloc, refusal);
+    }
+    drop(refusal);
+    let root = wish.root;
+    match format!(in alloc; "no module has the path `{root}` of the root") {
+        Ok(text) => ProjectFault::Project(text),
+        Err(_) => ProjectFault::Memory,
+    }
+}
+
+// The names of the root that are kept.
+fn kept_names(
+    alloc: Global,
+    unit: &TranslationUnit,
+    wish: &LinkWish<'_>,
+) -> Result<Vec<String>, ProjectFault> {
+    let names = match wish.keep {
+        Some(keep) => copies(alloc, keep)?,
+        None => entry_points(alloc, unit)?,
+    };
+    if names.is_empty() && wish.keep.is_none() && !wish.is_eager {
+        let root = wish.root;
+        return Err(ProjectFault::Project(format!(in alloc;
+            "the root `{root}` declares no entry point under these features; name what is kept by --keep"
+        )?));
+    }
+    Ok(names)
+}
+
+// Copies of names.
+fn copies(alloc: Global, names: &[&str]) -> Result<Vec<String>, AllocError> {
+    let mut copied = Vec::new(alloc);
+    for name in names.iter() {
+        copied.push(String::from_str(alloc, name)?)?;
+    }
+    Ok(copied)
+}
+
+// The names of a unit's entry points, each once.
+fn entry_points(alloc: Global, unit: &TranslationUnit) -> Result<Vec<String>, ProjectFault> {
+    let mut names: Vec<String> = Vec::new(alloc);
+    for ident in or_memory(unit.entry_points(alloc))? {
+        let name = name_of(unit.names(), ident);
+        if !names.iter().any(|known| known.as_str() == name) {
+            names.push(String::from_str(alloc, name)?)?;
+        }
+    }
+    Ok(names)
+}
+
+// What is found of the link.
+fn resolutions<R: Files + AllocGlobal>(
+    alloc: Global,
+    modules: &mut ProjectModules<'_, R>,
+    wish: &LinkWish<'_>,
+    unit: TranslationUnit,
+    keep: &[String],
+) -> Result<Resolutions, Diagnostic>
+    requires rooted { is_relative (path_view wish.now.root.now) ≡ false }
+{
+    if wish.is_eager {
+        return resolve_eager(alloc, unit, wish.root, modules, MOST_MODULES);
+    }
+    let kept = lent(alloc, keep)?;
+    resolve_lazy(alloc, &kept, unit, wish.root, modules, MOST_MODULES)
+}
+
+// Names as texts that are lent.
+fn lent<'n>(alloc: Global, names: &'n [String]) -> Result<Vec<&'n str>, AllocError> {
+    let mut texts = Vec::with_capacity(alloc, names.len())?;
+    for name in names {
+        texts.push(name.as_str())?;
+    }
+    Ok(texts)
+}
+
+// The text of what was found.
+fn assembled_text<R>(
+    alloc: Global,
+    modules: &ProjectModules<'_, R>,
+    wish: &LinkWish<'_>,
+    found: Resolutions,
+) -> Result<LinkedText, ProjectFault> {
+    let mut found = found;
+    let Some(root) = copy_of(alloc, wish.root) else {
+        return Err(ProjectFault::Memory);
+    };
+    let map = named(alloc, &mut found, root, wish.naming, wish.mangle_root)?;
+    let unit = or_memory(found.into_unit(alloc, true))?;
+    if let Err(diagnostic) = check(alloc, &unit, wish.builtins, wish.validation) {
+        return Err(modules.told(alloc, &diagnostic));
+    }
+    let clash = or_memory(names_clash(alloc, &unit))?;
+    let notes = if clash {
+        modules.clash_lines(alloc, &map, wish.root, &unit)?
+    } else {
+        String::new(alloc)
+    };
+    let text = printed(alloc, &unit)?;
+    let text = if wish.has_comments {
+        modules.with_comments(alloc, text, &map, wish.root, &unit)?
+    } else {
+        text
+    };
+    Ok(LinkedText { text, clash, notes })
+}
+
+// The text of a unit.
+fn printed(alloc: Global, unit: &TranslationUnit) -> Result<String, ProjectFault> {
+    match print_unit(alloc, unit) {
+        Ok(text) => Ok(text),
+        Err(PrintFault::Memory) => Err(ProjectFault::Memory),
+        Err(PrintFault::NoName) => Err(ProjectFault::Project(String::from_str(
+            alloc,
+            "a name of the linked unit is no identifier, so that no text says it; take --mangler escape",
+        )?)),
+        Err(fault) => Err(ProjectFault::Project(format!(in alloc; "{fault}")?)),
+    }
+}
