@@ -1,0 +1,4 @@
+pub mod Spans
+pub mod Adds
+pub mod Extents
+pub mod Laws
