@@ -1,7 +1,7 @@
 /* The linker of WESL modules as a C library.
  *
  * A bundle of modules goes in as JSON text, and one line comes out: the linked unit, or the fault that stands in the way.
- * docs/FORMAT.md describes both; docs/USING.md, "From C and Rust", says how a program is built with this library.
+ * docs/FORMAT.md describes both; docs/USING.md, "From C, C++, Rust and Python", says how a program is built with this library.
  */
 #ifndef WESL_H
 #define WESL_H

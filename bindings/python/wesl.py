@@ -1,0 +1,55 @@
+"""The linker of WESL modules, by the C library wesl: a bundle in, the linked unit out, or a Fault raised.
+
+The library is the one in the folder that WESL_LIB_DIR names, or the one that the system finds.
+"""
+
+import ctypes
+import dataclasses
+import json
+import os
+
+_NAME = "libwesl.so.0"
+_library = ctypes.CDLL(os.path.join(os.environ.get("WESL_LIB_DIR", ""), _NAME))
+_link = _library.wesl_link_bundle
+_link.restype = ctypes.c_uint32
+_link.argtypes = [ctypes.c_char_p, ctypes.c_size_t, ctypes.c_char_p, ctypes.c_size_t, ctypes.POINTER(ctypes.c_size_t)]
+
+
+@dataclasses.dataclass(frozen=True)
+class Answer:
+    """A linked unit, as a tree; whether its names read otherwise than meant; (module, item) of each mangled name."""
+
+    unit: dict
+    clash: bool
+    map: dict
+
+
+class Fault(Exception):
+    """Why a bundle is refused: its kind and arguments, and the module and the span where they are known."""
+
+    def __init__(self, kind, arguments, module=None, span=None):
+        place = f"{module}: " if module else ""
+        super().__init__(place + " ".join([kind, *map(repr, arguments)]))
+        self.kind, self.arguments, self.module, self.span = kind, arguments, module, span
+
+
+def link_line(bundle):
+    """Links the bundle of these bytes: whether it is answered, and the bytes of the line."""
+    needed = ctypes.c_size_t(65536 + 2 * len(bundle))
+    while True:
+        room = needed.value
+        buffer = ctypes.create_string_buffer(room)
+        status = _link(bundle, len(bundle), buffer, room, ctypes.byref(needed))
+        if needed.value <= room:
+            return status == 0, buffer.raw[: needed.value]
+
+
+def link(bundle):
+    """Links a bundle: JSON text, its bytes, or the object that it says. Answers an Answer, or raises a Fault."""
+    if not isinstance(bundle, (str, bytes)):
+        bundle = json.dumps(bundle, ensure_ascii=False)
+    is_answer, line = link_line(bundle.encode() if isinstance(bundle, str) else bundle)
+    told = json.loads(line)
+    if not is_answer:
+        raise Fault(told["fault"], told["args"], told.get("module"), tuple(told["span"]) if "span" in told else None)
+    return Answer(told["unit"], told["clash"], {name: tuple(item) for name, item in told["map"].items()})

@@ -1,0 +1,9 @@
+import package::light::shade;
+@if(fog) import package::light::fog::fade;
+
+@fragment
+fn fs_main(@location(0) normal: vec3f, @location(1) distance: f32) -> @location(0) vec4f {
+    var color = shade(normal);
+    @if(fog) color = fade(color, distance);
+    return vec4f(color, 1.0);
+}
