@@ -1,12 +1,12 @@
 -- What unions of the sets of places tell of the places.
-use Rattle.std.proofs.Common.{◌≡◌, ◌⊎◌, ℕ, zero, suc, ◌+◌, ◌*◌, ◌<◌, ◌≤◌, Bool, true, false, ◌&&◌, ◌||◌, List, [], ◌∷◌, ◌++◌, length, Contains, slice_get, Option, Some, None, IfSome, inl, inr, ◌∙◌, ap, subst, sym, refl, arith}
+use Rattle.std.proofs.Common.{◌≡◌, ◌⊎◌, ℕ, zero, suc, ◌+◌, ◌*◌, ◌≤◌, Bool, true, false, ◌&&◌, ◌||◌, List, [], ◌∷◌, ◌++◌, length, Contains, slice_get, Option, Some, None, IfSome, inl, inr, ◌∙◌, ap, subst, sym, refl, arith}
 use Rattle.std.proofs.lemmas.Bool.{cases_lt}
 use Rattle.wesl_cond_choices.specs.declared.place.Place.{Place}
 use Rattle.wesl_cond_choices.specs.Places.{is_always, keeps, together}
 use Rattle.wesl_cond_choices.specs.Choices.{Choices, has}
 use Rattle.wesl_cond_choices.specs.Alive.{AreChoicesOf, set_has}
-use Rattle.wesl_cond_covers.specs.Unseen.{AreIn, AreUnions, AreUnseen, IsIn}
-use Rattle.wesl_cond_covers.specs.LevelView.{AreLevelsOf, LevelPasses, LevelsPass}
+use Rattle.wesl_cond_covers.specs.Unseen.{AreIn, AreUnions, IsIn}
+use Rattle.wesl_cond_covers.specs.LevelView.{LevelPasses, LevelsPass}
 use Rattle.wesl_cond_covers.specs.declared.level.Level.{Level}
 
 -- ---- lists and tests

@@ -26,7 +26,12 @@ impl Level {
     ghost use Rattle.wesl_cond_covers.specs.LevelView.{IsLevelOf, LevelPasses};
 
     /// Of these places, of so many to a union.
-    pub(crate) fn of(alloc: Global, alive: &Alive, places: &[Place], span: usize) -> Result<Level, AllocError>
+    pub(crate) fn of(
+        alloc: Global,
+        alive: &Alive,
+        places: &[Place],
+        span: usize,
+    ) -> Result<Level, AllocError>
         requires { 0 < span }
         ensures { IfOk result (λ l. IsLevelOf alive.now places.now l) }
     {

@@ -1,4 +1,4 @@
-use Rattle.std.proofs.Common.{◌≡◌, ◌*◌, ◌/◌, ◌%◌, ◌+◌, ℕ, arith}
+use Rattle.std.proofs.Common.{◌≡◌, ◌*◌, ◌/◌, ◌%◌, ℕ, arith}
 use Rattle.std.proofs.lemmas.Nat.{div-add-mod'}
 use Rattle.wesl_cond_covers.proofs.Passes.{level_passes}
 use Rattle.wesl_cond_covers.proofs.level.Level.passes.Goals as goal
