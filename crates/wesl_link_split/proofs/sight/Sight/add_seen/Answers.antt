@@ -33,7 +33,7 @@ binders-preserved c =
     let at : slice_get bs i ≡ Some b = held_at bs i b c.binders-test.true (itself bs i any_binder c.binders-test.true) in
     let is_seen : c.sees-is_seen.result ≡ sees ids s c.args.from (if x then b.stands else Always) = c.sees-is_seen.ensures ∙ ap (sees ids s c.args.from) c.placed.ensures in
     c.in_ok-keep.ensures
-    ∙ (ap₂ (λ l y. l ++ one_if y b) c.binders.invariant is_seen
+    ∙ (ap₂ (λ (l : List (Binder PathId NameId)) y. l ++ one_if y b) c.binders.invariant is_seen
     ∙ (sym (flat_next (λ d. one_if (sees ids s c.args.from (if x then d.stands else Always)) d) bs i b at)
     ∙ sym (passed_on s c.args.name c.args.from bs x c.group-group.ensures c.is_split-is_split.ensures (λ d. d) (i + 1) c.next-i-in-binders.result c.next-i-in-binders.ensures.ahead c.next-i-in-binders.ensures.unseen)))
 

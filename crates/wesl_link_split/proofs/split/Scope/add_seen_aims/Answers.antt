@@ -43,7 +43,7 @@ binders-preserved c =
     let aim : a ≡ aim_in s b = image_at (aim_in s) bs aims i b a are c.binders-test.true (itself bs i any_binder c.binders-test.true) (itself aims i any_aim (omega (arith, c.binders-test.true, long, map_long (aim_in s) bs))) in
     let is_seen : c.sees-is_seen.result ≡ sees ids s c.args.from (if x then b.stands else Always) = c.sees-is_seen.ensures ∙ ap (sees ids s c.args.from) c.placed.ensures in
     c.in_ok-keep_aim.ensures
-    ∙ (ap₂ (λ l y. l ++ one_if y a) c.binders.invariant is_seen
+    ∙ (ap₂ (λ (l : List Aim) y. l ++ one_if y a) c.binders.invariant is_seen
     ∙ (ap (λ y. flat_map (λ d. one_if (sees ids s c.args.from (if x then d.stands else Always)) (aim_in s d)) (take i bs) ++ one_if (sees ids s c.args.from (if x then b.stands else Always)) y) aim
     ∙ (sym (flat_next (λ d. one_if (sees ids s c.args.from (if x then d.stands else Always)) (aim_in s d)) bs i b at)
     ∙ sym (passed_on s c.args.name c.args.from bs x c.group-group.ensures c.is_split-is_split.ensures (aim_in s) (i + 1) c.next-i-in-binders.result c.next-i-in-binders.ensures.ahead c.next-i-in-binders.ensures.unseen))))
