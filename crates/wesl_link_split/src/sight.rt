@@ -104,10 +104,7 @@ fn is_any_split(facts: &[Facts]) -> bool
 }
 
 /// Adds where each of these binders stands.
-fn add_places(
-    places: &mut Vec<Place>,
-    group: &[Binder<PathId, NameId>],
-) -> Result<(), AllocError>
+fn add_places(places: &mut Vec<Place>, group: &[Binder<PathId, NameId>]) -> Result<(), AllocError>
     requires { places.old.items ≡ [] }
     ensures { OnOk result (places.new.items ≡ places_of group.now) }
 {
