@@ -1,4 +1,10 @@
 //! Lines and columns of a text, which people count from 1.
+ghost use Rattle.std.specs.Prelude.{◌≡◌, ℕ, suc, ◌^◌, ◌<◌, List, [], ◌∷◌, IfOk, count_by, nat_le};
+ghost use Rattle.wesl_tree_names.specs.Path.{Text};
+ghost use Rattle.wesl_text_tokens.specs.Characters.{is_line_end};
+ghost use Rattle.wesl_text_project.specs.Places.{AreLinesOf, column_of, line_of, line_start_of, starts_within};
+ghost use Rattle.wesl_text_project.specs.Steps.{begins_line, entered, next_line, passed};
+
 use std::alloc::{AllocError, Global};
 
 // A line that is longer is not shown.
@@ -16,7 +22,9 @@ pub struct Place {
 }
 
 // Whether a character ends a line.
-fn is_break(character: char) -> bool {
+fn is_break(character: char) -> bool
+    ensures { result ≡ is_line_end character }
+{
     match character {
         '\n' | '\u{b}' | '\u{c}' | '\r' | '\u{85}' | '\u{2028}' | '\u{2029}' => true,
         _ => false,
@@ -24,7 +32,9 @@ fn is_break(character: char) -> bool {
 }
 
 // Whether a line begins between two characters: `\r\n` ends one line.
-fn begins_line(before: Option<char>, next: char) -> bool {
+fn begins_line(before: Option<char>, next: char) -> bool
+    ensures { (cs : List ℕ) → result ≡ begins_line before (next ∷ cs) }
+{
     match before {
         Some('\r') => next != '\n',
         Some(character) => is_break(character),
@@ -32,8 +42,12 @@ fn begins_line(before: Option<char>, next: char) -> bool {
     }
 }
 
-/// The place of a byte in a text; of one behind its end, that of the end.
-pub fn place_of(text: &str, offset: usize) -> Place {
+/// The place of a byte in a text; of one behind its end, that of the end, and of one in a character, that behind it.
+pub fn place_of(text: &str, offset: usize) -> Place
+    ensures line { result.line ≡ line_of offset text.now }
+    ensures column { result.column ≡ column_of offset text.now }
+    ensures line_start { result.line_start ≡ line_start_of offset text.now }
+{
     let mut place = Place {
         line: 1,
         column: 1,
@@ -41,27 +55,59 @@ pub fn place_of(text: &str, offset: usize) -> Place {
     };
     let mut before = None;
     for (index, character) in text.char_indices() {
-        if begins_line(before, character) {
-            place = next_line(place, index);
-        }
+        let entered = entered(place, before, character, index);
         if index >= offset {
-            return place;
+            return entered;
         }
-        place.column = place.column.saturating_add(1);
+        place = passed(entered);
         before = Some(character);
     }
+    ended(place, before, text.len())
+}
+
+// The place of a character, behind the place of the one before it.
+fn entered(place: Place, before: Option<char>, next: char, index: usize) -> Place
+    requires { suc place.line < 2 ^ 64 }
+    ensures { (cs : List ℕ) → result ≡ entered place before index (next ∷ cs) }
+{
+    if begins_line(before, next) {
+        next_line(place, index)
+    } else {
+        place
+    }
+}
+
+// The place of the end of a text, behind the place of the last character.
+fn ended(place: Place, before: Option<char>, end: usize) -> Place
+    requires { suc place.line < 2 ^ 64 }
+    ensures { result ≡ entered place before end [] }
+{
     match before {
-        Some(character) if is_break(character) => next_line(place, text.len()),
+        Some(character) if is_break(character) => next_line(place, end),
         _ => place,
     }
 }
 
 // The place where the line behind one begins.
-fn next_line(place: Place, start: usize) -> Place {
+fn next_line(place: Place, start: usize) -> Place
+    requires { suc place.line < 2 ^ 64 }
+    ensures { result ≡ next_line place start }
+{
     Place {
-        line: place.line.saturating_add(1),
+        line: place.line + 1,
         column: 1,
         line_start: start,
+    }
+}
+
+// The place one character on.
+fn passed(place: Place) -> Place
+    requires { suc place.column < 2 ^ 64 }
+    ensures { result ≡ passed place }
+{
+    Place {
+        column: place.column + 1,
+        ..place
     }
 }
 
@@ -118,7 +164,9 @@ pub struct LineStarts {
 
 impl LineStarts {
     /// Those of a text.
-    pub fn of(alloc: Global, text: &str) -> Result<LineStarts, AllocError> {
+    pub fn of(alloc: Global, text: &str) -> Result<LineStarts, AllocError>
+        ensures { IfOk result (λ lines. AreLinesOf lines text.now) }
+    {
         let mut starts = Vec::new(alloc);
         let mut before = None;
         for (index, character) in text.char_indices() {
@@ -130,8 +178,10 @@ impl LineStarts {
         Ok(LineStarts { starts })
     }
 
-    /// The line in which a byte stands.
-    pub fn line(&self, offset: usize) -> usize {
+    /// The line in which a byte stands: the last one of the text that begins before it or with it.
+    pub fn line(&self, offset: usize) -> usize
+        ensures { (text : Text) → AreLinesOf self.now text → result ≡ suc (count_by (λ b. nat_le b offset) (starts_within text)) }
+    {
         let before = self.starts.partition_point(|start| *start <= offset);
         before.saturating_add(1)
     }
