@@ -92,8 +92,8 @@ pub fn features_of(
     for (name, answer) in given.iter() {
         add_flag(&mut features, String::from_str(alloc, name)?, *answer)?;
     }
-    if let Some(answer) = matches.get_str("other-features").and_then(feature_of) {
-        features.default = answer;
+    if let Some(word) = matches.get_str("other-features") {
+        features.default = feature_of(word).unwrap_or(features.default);
     }
     Ok(Some(features))
 }
