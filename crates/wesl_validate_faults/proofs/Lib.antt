@@ -1,3 +1,4 @@
+pub mod Closing
 pub mod Collecting
 pub mod Equality
 pub mod Fitting

@@ -1,31 +1,18 @@
 -- Rings of the graph of numbers are rings of declarations, and the first of a list is found.
-use Rattle.std.proofs.Common.{◌≡◌, ◌⊎◌, ◌↔◌, ℕ, suc, ◌<◌, ◌≤◌, ◌+◌, ◌==◌, ◌&&◌, ◌||◌, ◌++◌, Bool, true, false, cond, List, [], ◌∷◌, length, get_or, drop, drop-cons, add-one, refl, sym, ap, ◌∙◌, subst, inl, inr, append_assoc, append-nil, Vec, Global}
+use Rattle.std.proofs.Common.{◌≡◌, ◌⊎◌, ◌↔◌, ℕ, suc, ◌<◌, ◌≤◌, ◌+◌, ◌++◌, List, [], ◌∷◌, length, get_or, drop, drop-cons, add-one, refl, sym, ap, ◌∙◌, subst, inl, inr, append_assoc, append-nil}
 use Rattle.std.specs.Prelude.{Option, Some, None}
-use Rattle.std.specs.List.{Contains, find, list_any}
-use Rattle.std.proofs.lemmas.Bool.Decides.{Decides-eqb}
 use Rattle.std.proofs.lemmas.List.{drop_all}
 use Rattle.wesl_tree_names.specs.Path.{Text}
 use Rattle.wesl_tree_syntax.specs.Unit.{UnitView}
-use Rattle.wesl_scope_graph.specs.Graphs.{Graph, graph_view, edges_at, Leads, IsClosed, Reached, marked, onward}
-use Rattle.wesl_scope_graph.specs.Marks.{mark_at}
+use Rattle.wesl_scope_graph.specs.Graphs.{Graph, Leads}
 use Rattle.wesl_validate_rules.specs.Graphs.{Path, edge, then, IsGrounded, IsRing}
 use Rattle.wesl_validate_rules.specs.Valid.{LeadsTo, Reaches, directly, onward as reaches_onward}
-use Rattle.wesl_validate_rules.proofs.Finding.{contains_here, contains_later, contains_cases, contains_none}
 use Rattle.wesl_validate_rules.proofs.Graphs.{no_ring}
 use Rattle.wesl_validate_faults.specs.Findings.{Finding}
-use Rattle.wesl_validate_faults.specs.Gathered.{closes, cycle_here, AreRings, AddsRings}
+use Rattle.wesl_validate_faults.specs.Gathered.{cycle_here, AreRings, AddsRings}
 use Rattle.wesl_validate_faults.specs.Listed.{module_numbers, IsFirst, ClosesCycle, AreCycles, cycle_by}
 
 -- ---- the first of a list
-module _ (P : ℕ → Type 0) (p : ℕ → Bool) (sound : (x : ℕ) → p x ≡ true → P x) (complete : (x : ℕ) → P x → p x ≡ true) where
-  pub first_found : (xs : List ℕ) → IsFirst P xs (find p xs)
-  first_found [] = refl
-  first_found (x ∷ xs) = by (p x) refl (first_found xs)
-    where
-      by : (t : Bool) → p x ≡ t → IsFirst P xs (find p xs) → IsFirst P (x ∷ xs) (cond t (Some x) (find p xs))
-      by true e r = inl (sound x e, refl)
-      by false e r = inr (λ h. let f : p x ≡ true = complete x h in let z : ⊥ = cc in z, r)
-
 module _ (P Q : ℕ → Type 0) (there : (x : ℕ) → P x → Q x) (back : (x : ℕ) → Q x → P x) where
   pub same_first : (xs : List ℕ) (r : Option ℕ) → IsFirst P xs r → IsFirst Q xs r
   same_first [] r e = e
@@ -36,89 +23,11 @@ pub no_first : (P : ℕ → Type 0) (xs : List ℕ) → ((x : ℕ) → P x → �
 no_first P [] n = refl
 no_first P (x ∷ xs) n = inr (n x, no_first P xs n)
 
--- a search, one item after the other
-module _ (p : ℕ → Bool) (xs : List ℕ) (i x : ℕ) (inside : i < length xs) (is : x ≡ get_or xs i 0) where
-  split : drop i xs ≡ x ∷ drop (i + 1) xs
-  split = rw add-one (drop-cons xs i 0 inside ∙ ap (λ y. y ∷ drop (suc i) xs) (sym is))
-
-  here : find p (drop i xs) ≡ find p (x ∷ drop (i + 1) xs)
-  here = ap (find p) split
-
-  pub find_here : p x ≡ true → find p (drop i xs) ≡ Some x
-  find_here e = here ∙ ap (λ t. cond t (Some x) (find p (drop (i + 1) xs))) e
-
-  pub find_next : p x ≡ false → find p (drop i xs) ≡ find p (drop (i + 1) xs)
-  find_next e = here ∙ ap (λ t. cond t (Some x) (find p (drop (i + 1) xs))) e
-
-pub find_none : (p : ℕ → Bool) (xs : List ℕ) (i : ℕ) → length xs ≤ i → find p (drop i xs) ≡ None
-find_none p xs i l = ap (find p) (drop_all i xs l)
-
--- ---- what a node reaches
-either_edge : (xs : List ℕ) (b : ℕ) → list_any (λ t. t == b) xs ≡ true → Contains xs b
-either_edge [] b e = cc
-either_edge (x ∷ xs) b e = by (x == b) (Decides-eqb x b) e (either_edge xs b)
-  where
-    by : (t : Bool) → ((t ≡ true → x ≡ b) × (x ≡ b → t ≡ true)) → (t || list_any (λ t. t == b) xs) ≡ true → (list_any (λ t. t == b) xs ≡ true → Contains xs b) → Contains (x ∷ xs) b
-    by true d h r = subst (Contains (x ∷ xs)) (d.0 refl) (contains_here x xs)
-    by false d h r = contains_later x b xs (r h)
-
-edge_is : (xs : List ℕ) (b : ℕ) → Contains xs b → list_any (λ t. t == b) xs ≡ true
-edge_is [] b c = absurd (contains_none b c)
-edge_is (x ∷ xs) b c = by (x == b) (Decides-eqb x b) (contains_cases x b xs c) (edge_is xs b)
-  where
-    by : (t : Bool) → ((t ≡ true → x ≡ b) × (x ≡ b → t ≡ true)) → (x ≡ b) ⊎ Contains xs b → (Contains xs b → list_any (λ t. t == b) xs ≡ true) → (t || list_any (λ t. t == b) xs) ≡ true
-    by true d s r = refl
-    by false d (inl e) r = let q : false ≡ true = d.1 e in cc
-    by false d (inr k) r = r k
-
-both : (a b : Bool) → (a && b) ≡ true → (a ≡ true) × (b ≡ true)
-both true b e = (refl, e)
-both false b e = cc
-
-and_true : (a b : Bool) → a ≡ true → b ≡ true → (a && b) ≡ true
-and_true a b e f = rw e f
-
+-- ---- rings
 module _ (g : Graph) where
   longer : (a b c : ℕ) → Path g a b → Leads g b c → Path g a c
   longer a b c (edge _ _ s) t = then a b c s (edge b c t)
   longer a b c (then _ d _ s r) t = then a d c s (longer d b c r t)
-
-  module _ (closed : IsClosed g) (marks : List Bool) (sized : length marks ≡ length g) (node : ℕ) (only : (a : ℕ) → mark_at marks a ≡ (node == a)) where
-    inside : (a b : ℕ) → Leads g a b → b < length marks
-    inside a b l = subst (λ n. b < n) (sym sized) (closed a b l)
-
-    reaches : (a : ℕ) → Reached g marks a → (node ≡ a) ⊎ Path g node a
-    reaches a (marked _ h) = inl ((Decides-eqb node a).0 (sym (only a) ∙ h))
-    reaches b (onward a _ l r s) = by (reaches a r)
-      where
-        by : (node ≡ a) ⊎ Path g node a → (node ≡ b) ⊎ Path g node b
-        by (inl e) = inr (edge node b (subst (λ k. Leads g k b) (sym e) s))
-        by (inr p) = inr (longer node a b p s)
-
-    walked : (a b : ℕ) → Reached g marks a → Path g a b → Reached g marks b
-    walked a b r (edge _ _ s) = onward a b (inside a b s) r s
-    walked a b r (then _ c _ s p) = walked c b (onward a c (inside a c s) r s) p
-
-    at_node : Reached g marks node
-    at_node = marked node (only node ∙ (Decides-eqb node node).1 refl)
-
-    reached : (a : ℕ) → (node ≡ a) ⊎ Path g node a → Reached g marks a
-    reached a (inl e) = subst (Reached g marks) e at_node
-    reached a (inr p) = walked node a at_node p
-
-    pub reached_is : (after : List Bool) → ((a : ℕ) → (mark_at after a ≡ true) ↔ Reached g marks a) → (a : ℕ) → (mark_at after a ≡ true) ↔ ((node ≡ a) ⊎ Path g node a)
-    reached_is after h a = (λ m. reaches a ((h a).0 m), λ s. (h a).1 (reached a s))
-
-  -- by marks as by paths
-  module _ (closed : IsClosed g) (marks : List Bool) (node : ℕ) (all : node < length g → (a : ℕ) → (mark_at marks a ≡ true) ↔ ((node ≡ a) ⊎ Path g node a)) where
-    pub closes_sound : (x : ℕ) → closes g marks node x ≡ true → IsRing g node x
-    closes_sound x e =
-        let s = both (mark_at marks x) (list_any (λ t. t == node) (edges_at g x)) e in
-        let l = either_edge (edges_at g x) node s.1 in
-        record { leads_there = (all (closed x node l) x).0 s.0; leads_back = l }
-
-    pub closes_complete : (x : ℕ) → IsRing g node x → closes g marks node x ≡ true
-    closes_complete x r = and_true (mark_at marks x) (list_any (λ t. t == node) (edges_at g x)) ((all (closed x node r.leads_back) x).1 r.leads_there) (edge_is (edges_at g x) node r.leads_back)
 
   -- where every path ends no node reaches itself
   pub no_closing : ((a : ℕ) → IsGrounded g a) → (a last : ℕ) → IsRing g a last → ⊥
@@ -191,7 +100,3 @@ module _ (u : UnitView) (names : List Text) (same : names ≡ u.names) (g : Grap
   pub none_are_cycles : ((a : ℕ) → IsGrounded g a) → (others : List ℕ) → AreCycles u others []
   none_are_cycles all [] = refl
   none_are_cycles all (a ∷ others) = (None, [], no_first (ClosesCycle u a) (module_numbers u) (λ x h. no_closing g all a x (ring_of a x h)), none_are_cycles all others, refl)
-
-pub counted : (rows : List (Vec ℕ Global)) → length (graph_view rows) ≡ length rows
-counted [] = refl
-counted (x ∷ rows) = ap suc (counted rows)

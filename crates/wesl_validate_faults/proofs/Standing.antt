@@ -32,7 +32,7 @@ module _ (P : ℕ → Type 0) where
   first_is (y ∷ xs) x (inl h) = let f : Some x ≡ Some y = h.1 in let e : y ≡ x = cc in subst P e h.0
   first_is (y ∷ xs) x (inr h) = first_is xs x h.1
 
-  one_is : (xs : List ℕ) (r : Option ℕ) → IsFirst P xs r → (x : ℕ) → Contains xs x → P x → (y : ℕ) × (r ≡ Some y)
+  pub one_is : (xs : List ℕ) (r : Option ℕ) → IsFirst P xs r → (x : ℕ) → Contains xs x → P x → (y : ℕ) × (r ≡ Some y)
   one_is [] r e x c p = absurd (contains_none x c)
   one_is (y ∷ xs) r (inl h) x c p = (y, h.1)
   one_is (y ∷ xs) r (inr h) x c p = by (contains_cases y x xs c) (λ d. one_is xs r h.1 x d p)

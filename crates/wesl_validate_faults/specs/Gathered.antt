@@ -1,11 +1,12 @@
 -- What is gathered of a module, one after the other.
-use Rattle.std.specs.Prelude.{◌≡◌, ℕ, Bool, ◌&&◌, ◌==◌, Option, Some, None, List, [], ◌∷◌, ◌++◌, map, flat_map, slice_get, if◌then◌else◌}
-use Rattle.std.specs.List.{list_any}
+use Rattle.std.specs.Prelude.{◌≡◌, ℕ, Bool, true, false, ◌==◌, Option, Some, None, List, [], ◌∷◌, ◌++◌, map, flat_map, slice_get, if◌then◌else◌}
+use Rattle.std.specs.List.{Contains, list_any}
 use Rattle.std.specs.Option.{option_map}
 use Rattle.wesl_tree_names.specs.Path.{Text}
 use Rattle.wesl_tree_syntax.specs.Unit.{UnitView, name_in}
 use Rattle.wesl_scope_graph.specs.Graphs.{Graph, edges_at}
 use Rattle.wesl_scope_graph.specs.Marks.{mark_at}
+use Rattle.wesl_scope_values.specs.Values.{value_at}
 use Rattle.wesl_scope_occurrences.specs.Occurrences.{is_module_name}
 use Rattle.wesl_scope_occurrences.specs.Walk.{Found}
 use Rattle.wesl_scope_strip.specs.Marks.{names_here}
@@ -75,9 +76,19 @@ module _ (names : List Text) where
   cycle_here a None = []
   cycle_here a (Some last) = spec.cycle (name_in names a) (name_in names last) ∷ []
 
--- by marks of what a node reaches, whether another is marked and leads to it
-abbrev pub closes : Graph → List Bool → ℕ → ℕ → Bool
-closes g marks a last = mark_at marks last && list_any (λ t. t == a) (edges_at g last)
+-- whether two numbers are there and are one
+abbrev pub are_one : Option ℕ → Option ℕ → Bool
+are_one (Some n) (Some m) = n == m
+are_one _ _ = false
+
+-- whether two nodes have one group
+abbrev pub have_one_group : List (Option ℕ) → ℕ → ℕ → Bool
+have_one_group groups a b = are_one (value_at groups a) (value_at groups b)
+
+-- of each node the first of these that closes a ring with it is kept; a node that is marked as taken is one of these
+pub record AreClosers (g : Graph) (nodes : List ℕ) (taken : List Bool) (closers : List (Option ℕ)) : Type 0 where
+  pub first : (n : ℕ) → IsFirst (IsRing g n) nodes (value_at closers n)
+  pub among : (m : ℕ) → mark_at taken m ≡ true → Contains nodes m
 
 -- of these nodes those that reach themselves
 abbrev pub AreRings : List Text → Graph → List ℕ → List ℕ → List spec.Finding → Type 0

@@ -3,6 +3,7 @@
 #![tactic(auto)]
 
 mod calls;
+mod closers;
 mod cycles;
 mod duplicates;
 mod finding;

@@ -23,9 +23,6 @@ none_of (Some x) P e h = cc
 pub ring-requires : goal.ring-requires
 ring-requires c = record { closed = subst (λ xs. IsClosed (graph_view xs)) (sym c.deref.ensures.value) c.in_ok-graph.ensures.closed }
 
-pub add_rings-requires : goal.add_rings-requires
-add_rings-requires c = record { closed = subst (λ xs. IsClosed (graph_view xs)) (sym c.deref-in-Some.ensures.value) c.in_ok-graph.ensures.closed }
-
 pub returns-in-None : goal.returns-in-None
 returns-in-None c =
     let found = c.args.found.now in
@@ -39,8 +36,8 @@ pub returns : goal.returns
 returns c =
     let found = c.args.found.now in
     let os = map occurrence_view found.all.items in
-    let g = graph_view c.deref-in-Some.result.now in
-    let edges : (a : ℕ) → edges_at g a ≡ steps os a = subst (λ xs. (a : ℕ) → edges_at (graph_view xs) a ≡ steps os a) (sym c.deref-in-Some.ensures.value) c.in_ok-graph.ensures.steps in
+    let g = graph_view c.in_ok-graph.graph.items in
+    let edges : (a : ℕ) → edges_at g a ≡ steps os a = c.in_ok-graph.ensures.steps in
     let ds = c.in_ok-declared.declared.items in
     of_ok c.add_rings.result
     (λ v h u n. (

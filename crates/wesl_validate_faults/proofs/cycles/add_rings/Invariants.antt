@@ -5,4 +5,4 @@ use Rattle.wesl_validate_faults.proofs.Rings.{Owes}
 use Rattle.wesl_validate_faults.proofs.cycles.add_rings.Given as goal
 
 abbrev pub invariant-loop-number : goal.invariant-loop-number
-invariant-loop-number l = Owes l.names (graph_view l.graph) l.declared.items (findings_view l.initial.findings.items) (findings_view l.findings.items) (drop l.number-index l.declared.items)
+invariant-loop-number l = Owes l.names (graph_view l.graph.items) l.declared.items (findings_view l.initial.findings.items) (findings_view l.findings.items) (drop l.number-index l.declared.items)
