@@ -40,13 +40,13 @@ class Source:
         return index if self.bytes_before is None else self.bytes_before[index]
 
     def index(self, offset):
-        """The character at a byte."""
+        """The character in which a byte stands."""
         if self.bytes_before is None:
             return min(offset, len(self.text))
         low, high = 0, len(self.text)
         while low < high:
-            middle = (low + high) // 2
-            low, high = (middle + 1, high) if self.bytes_before[middle] < offset else (low, middle)
+            middle = (low + high + 1) // 2
+            low, high = (middle, high) if self.bytes_before[middle] <= offset else (low, middle - 1)
         return low
 
     def line_and_column(self, index):

@@ -1,5 +1,5 @@
 //! Projects of shader text: a folder of modules with what describes it, the packages that its modules use, which file a module's
-//! path stands for, and where a byte of a text stands.
+//! path stands for, and the line of a text in which something stands.
 //!
 //! Each call is proved safe and ends. What paths, words and names stand for is pinned; what the files of a folder are is not for a
 //! clause to know.
@@ -21,5 +21,5 @@ pub use files::{ModuleFile, module_file};
 pub use layout::{Layout, PackageFolder};
 pub use packages::{given_packages, layout_of};
 pub use paths::{below, shown_below};
-pub use places::{LineStarts, Place, line_at, place_of};
+pub use places::line_at;
 pub use roots::{default_root, parsed_root, root_of_file};

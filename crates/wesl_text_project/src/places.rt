@@ -1,69 +1,9 @@
-//! Lines and columns of a text, which people count from 1.
+//! The line of a text in which something stands, with marks below it.
 use std::alloc::{AllocError, Global};
+use wesl_text_lines::{is_line_end, place_of};
 
 // A line that is longer is not shown.
 const MOST_SHOWN: usize = 300;
-
-/// Where a byte of a text stands.
-#[derive(Clone, Copy)]
-pub struct Place {
-    /// The line.
-    pub line: usize,
-    /// The character in the line.
-    pub column: usize,
-    /// The byte with which the line begins.
-    pub line_start: usize,
-}
-
-// Whether a character ends a line.
-fn is_break(character: char) -> bool {
-    match character {
-        '\n' | '\u{b}' | '\u{c}' | '\r' | '\u{85}' | '\u{2028}' | '\u{2029}' => true,
-        _ => false,
-    }
-}
-
-// Whether a line begins between two characters: `\r\n` ends one line.
-fn begins_line(before: Option<char>, next: char) -> bool {
-    match before {
-        Some('\r') => next != '\n',
-        Some(character) => is_break(character),
-        None => false,
-    }
-}
-
-/// The place of a byte in a text; of one behind its end, that of the end.
-pub fn place_of(text: &str, offset: usize) -> Place {
-    let mut place = Place {
-        line: 1,
-        column: 1,
-        line_start: 0,
-    };
-    let mut before = None;
-    for (index, character) in text.char_indices() {
-        if begins_line(before, character) {
-            place = next_line(place, index);
-        }
-        if index >= offset {
-            return place;
-        }
-        place.column = place.column.saturating_add(1);
-        before = Some(character);
-    }
-    match before {
-        Some(character) if is_break(character) => next_line(place, text.len()),
-        _ => place,
-    }
-}
-
-// The place where the line behind one begins.
-fn next_line(place: Place, start: usize) -> Place {
-    Place {
-        line: place.line.saturating_add(1),
-        column: 1,
-        line_start: start,
-    }
-}
 
 /// The line of a text in which the bytes from `start` to `end` stand, and below it marks under what they cover. Nothing where the
 /// line is long.
@@ -84,7 +24,7 @@ pub fn line_at(alloc: Global, text: &str, start: usize, end: usize) -> Result<St
 // What a text has before its first line ends.
 fn line_from(text: &str) -> &str {
     for (index, character) in text.char_indices() {
-        if is_break(character) {
+        if is_line_end(character) {
             return text.get(..index).unwrap_or(text);
         }
     }
@@ -108,31 +48,4 @@ fn mark(shown: &mut String, covered: &str) -> Result<(), AllocError> {
         shown.push('^')?;
     }
     Ok(())
-}
-
-/// The bytes with which the lines of a text begin.
-#[derive(Drop)]
-pub struct LineStarts {
-    starts: Vec<usize>,
-}
-
-impl LineStarts {
-    /// Those of a text.
-    pub fn of(alloc: Global, text: &str) -> Result<LineStarts, AllocError> {
-        let mut starts = Vec::new(alloc);
-        let mut before = None;
-        for (index, character) in text.char_indices() {
-            if begins_line(before, character) {
-                starts.push(index)?;
-            }
-            before = Some(character);
-        }
-        Ok(LineStarts { starts })
-    }
-
-    /// The line in which a byte stands.
-    pub fn line(&self, offset: usize) -> usize {
-        let before = self.starts.partition_point(|start| *start <= offset);
-        before.saturating_add(1)
-    }
 }
