@@ -1,12 +1,14 @@
--- What has slots has no spans, each of its identifiers is alone, and its types begin with a path or with none.
+-- What has slots has no spans, each of its identifiers is alone, its types begin with a path or with none, and its assignments with
+-- attributes.
 use Rattle.std.proofs.Common.{◌≡◌, zero, suc, Bool, true, false, not, ◌&&◌, if◌then◌else◌, [], ◌∷◌, Option, Some, None, option_map, option_and_then, refl, sym as turned, ap, ◌∙◌, subst, codes}
-use Rattle.wesl_tree_syntax.specs.Tree.{Kind, kind, at, ident, text, texts, truth, path, end, tree, reference, present, absent, list, type_expression, type_or_identifier, expression_node, default_case}
+use Rattle.wesl_tree_syntax.specs.Tree.{Kind, kind, at, ident, text, texts, truth, path, assignment, end, tree, reference, present, absent, attributes, list, type_expression, type_or_identifier, expression_node, default_case}
 use Rattle.wesl_tree_syntax.specs.Kinds.{same_kind}
+use Rattle.wesl_tree_syntax.specs.declared.statement.AssignmentOperator.TheVariants as assignment_operator
 use Rattle.wesl_text_tokens.specs.declared.symbol.Symbol.TheVariants as is
 use Rattle.wesl_text_tokens.specs.Tokens.{symbol, open_list, close_list}
 use Rattle.wesl_text_form.specs.Slots.{must, may, alone}
 use Rattle.wesl_text_form.specs.Operators.{class_of, is_tight}
-use Rattle.wesl_text_form.specs.Productions.{Sort, an_expression, a_type, an_argument, a_statement, a_selector, Leaf, an_ident, an_item, a_name, a_word, a_custom, a_literal, a_rule, some_words, one_or_two, steps, a_path, Row, nothing, sym, may_sym, says, opens, closes, own, leaf, run, commas, optional, inside, target, selectors, unended, arrow, row_of}
+use Rattle.wesl_text_form.specs.Productions.{Sort, an_expression, a_type, an_argument, an_attribute, a_statement, a_bare_statement, a_selector, Leaf, an_ident, an_item, a_name, a_word, a_custom, a_literal, a_rule, some_words, one_or_two, steps, a_path, Row, nothing, sym, may_sym, says, opens, closes, own, leaf, run, commas, optional, inside, target, selectors, unended, arrow, attrs, row_of}
 use Rattle.wesl_text_form.specs.Spelling.{Label, Forest, Slots, spells, followed, named, signed, trailing, leaf_slots, first_slots, row_slots, row_of_none, with_comma, fits, stands_as, label_at, is_kind, is_underscore, is_wildcard, leads_to_place, is_lone_default, is_end, is_absent_at, without_last}
 use Rattle.wesl_text_reading.proofs.Filled.{no_some, of_some, no_true}
 use Rattle.wesl_text_reading.proofs.Takes.{and_parts}
@@ -24,11 +26,17 @@ begins_well (tree (kind present) c o) = is_path_leaf c
 begins_well (tree (kind absent) c o) = is_end c
 begins_well f = false
 
+-- attributes first
+abbrev pub begins_attributes : Forest → Bool
+begins_attributes (tree (kind attributes) c o) = true
+begins_attributes f = false
+
 abbrev pub good_label : Label → Forest → Bool
 good_label (at k zero zero) c = true
 good_label (at k s e) c = false
 good_label (ident r x) c = is_end c
 good_label (kind type_expression) c = begins_well c
+good_label (assignment assignment_operator.Equal) c = begins_attributes c
 good_label l c = true
 
 abbrev pub is_good : Forest → Bool
@@ -40,15 +48,15 @@ abbrev pub Good : Bool → Slots → Type 0
 Good b None = Unit {0}
 Good b (Some ss) = b ≡ true
 
-good_true : (b : Bool) (a : Slots) → b ≡ true → Good b a
+pub good_true : (b : Bool) (a : Slots) → b ≡ true → Good b a
 good_true b None h = tt
 good_true b (Some ss) h = h
 
-good_more : (x z : Bool) (a : Slots) → (x ≡ true → z ≡ true) → Good x a → Good z a
+pub good_more : (x z : Bool) (a : Slots) → (x ≡ true → z ≡ true) → Good x a → Good z a
 good_more x z None f h = tt
 good_more x z (Some ss) f h = f h
 
-good_joined : (x y z : Bool) (a c : Slots) → (x ≡ true → y ≡ true → z ≡ true) → Good x a → Good y c → Good z (followed a c)
+pub good_joined : (x y z : Bool) (a c : Slots) → (x ≡ true → y ≡ true → z ≡ true) → Good x a → Good y c → Good z (followed a c)
 good_joined x y z None c f h g = tt
 good_joined x y z (Some ss) None f h g = tt
 good_joined x y z (Some ss) (Some us) f h g = f h g
@@ -57,29 +65,29 @@ good_none : (z : Bool) (a : Slots) → Good z (followed a None)
 good_none z None = tt
 good_none z (Some ss) = tt
 
-good_either : (z b : Bool) (x y : Slots) → (b ≡ true → Good z x) → (b ≡ false → Good z y) → Good z (if b then x else y)
+pub good_either : (z b : Bool) (x y : Slots) → (b ≡ true → Good z x) → (b ≡ false → Good z y) → Good z (if b then x else y)
 good_either z true x y f g = f refl
 good_either z false x y f g = g refl
 
-good_trailing : (z : Bool) (a : Slots) → Good z a → Good z (option_map trailing a)
+pub good_trailing : (z : Bool) (a : Slots) → Good z a → Good z (option_map trailing a)
 good_trailing z None h = tt
 good_trailing z (Some ss) h = h
 
-good_cut : (z : Bool) (a : Slots) → Good z a → Good z (option_map without_last a)
+pub good_cut : (z : Bool) (a : Slots) → Good z a → Good z (option_map without_last a)
 good_cut z None h = tt
 good_cut z (Some ss) h = h
 
-good_comma : (z : Bool) (a : Slots) → Good z a → Good z (option_map (λ ss. signed is.Comma ∷ ss) a)
+pub good_comma : (z : Bool) (a : Slots) → Good z a → Good z (option_map (λ ss. signed is.Comma ∷ ss) a)
 good_comma z None h = tt
 good_comma z (Some ss) h = h
 
-both_so : (a b : Bool) → a ≡ true → b ≡ true → (a && b) ≡ true
+pub both_so : (a b : Bool) → a ≡ true → b ≡ true → (a && b) ≡ true
 both_so a b h g = ap (λ z. z && b) h ∙ g
 
 all_so : (a b d : Bool) → (a && b) ≡ true → d ≡ true → (a && (b && d)) ≡ true
 all_so a b d h g = let x : (a ≡ true) × (b ≡ true) = and_parts a b h in both_so a (b && d) x.0 (both_so b d x.1 g)
 
-not_so : (b : Bool) → not b ≡ true → b ≡ false
+pub not_so : (b : Bool) → not b ≡ true → b ≡ false
 not_so true h = absurd (no_true h)
 not_so false h = refl
 
@@ -138,10 +146,23 @@ type_good (tree l c o) =
     (λ e. good_either (begins_well (tree l c o)) (is_kind present (Some l)) (followed ((spells c).row (leaf (a_path false) nothing)) ((spells o).row name_row)) None
     (λ g. good_joined (is_path_leaf c) true (begins_well (tree l c o)) ((spells c).row (leaf (a_path false) nothing)) ((spells o).row name_row) (λ a b. ap (λ z. begins_well (tree z c o)) (label_is present l g) ∙ a) (path_good c) (good_true true ((spells o).row name_row) refl)) (λ g. tt))
 
+-- ---- assignments
+
+attributes_good : (row : Row) (c : Forest) → Good (begins_attributes c) ((spells c).row (attrs row))
+attributes_good row end = tt
+attributes_good row (tree l c o) =
+    good_either (begins_attributes (tree l c o)) (is_kind attributes (Some l)) (followed ((spells c).all an_attribute) ((spells o).row row)) None
+    (λ e. good_true (begins_attributes (tree l c o)) (followed ((spells c).all an_attribute) ((spells o).row row)) (ap (λ z. begins_attributes (tree z c o)) (label_is attributes l e))) (λ e. tt)
+
+abbrev target_row : Row
+target_row = target (sym is.Equal (own an_expression (sym is.Semicolon nothing)))
+
 -- a node with these children
 label_good : (l : Label) (s : Sort) (c : Forest) (x : Row) → row_of s l ≡ Some x → Good (good_label l c) ((spells c).row x)
 label_good (kind type_expression) a_type c x e = subst (λ z. Good (begins_well c) ((spells c).row z)) (of_some type_row x e) (type_good c)
 label_good (kind type_expression) s c x e = absurd (no_some x e)
+label_good (assignment assignment_operator.Equal) a_bare_statement c x e = subst (λ z. Good (begins_attributes c) ((spells c).row z)) (of_some (attrs target_row) x e) (attributes_good target_row c)
+label_good (assignment assignment_operator.Equal) s c x e = absurd (no_some x e)
 label_good (at k zero zero) s c x e = good_true true ((spells c).row x) refl
 label_good (at k zero (suc f)) an_expression c x e = absurd (no_some x e)
 label_good (at k zero (suc f)) s c x e = absurd (no_some x e)

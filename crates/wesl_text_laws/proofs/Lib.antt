@@ -1,4 +1,5 @@
 pub mod Good
+pub mod Needed
 pub mod Shaped
 pub mod Modules
 pub mod Linked

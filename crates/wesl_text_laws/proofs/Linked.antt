@@ -1,10 +1,8 @@
 -- A linked unit of writable modules is writable.
-use Rattle.std.proofs.Common.{◌≡◌, ℕ, true, List, [], ◌∷◌, Some, None, map, Contains, refl, sym as turned, ap, ◌∙◌, subst}
-use Rattle.std.proofs.lemmas.List.Elements.{Contains-get_or}
+use Rattle.std.proofs.Common.{◌≡◌, ◌↔◌, true, List, [], ◌∷◌, Some, None, map, Contains, refl, ap, ◌∙◌, subst}
 use Rattle.wesl_tree_names.specs.Path.{Text, Path}
 use Rattle.wesl_tree_syntax.specs.Tree.{TreeOf, trees}
-use Rattle.wesl_tree_syntax.specs.Unit.{UnitOf, UnitView, forest_of_unit, trees_of as numbered, name_in, spelled, numbers}
-use Rattle.wesl_text_form.specs.Names.{is_name}
+use Rattle.wesl_tree_syntax.specs.Unit.{UnitOf, UnitView, forest_of_unit, trees_of as numbered, name_in, spelled}
 use Rattle.wesl_text_form.specs.Spelling.{Slots, slots, unit_row}
 use Rattle.wesl_text_form.specs.Says.{IsWritable}
 use Rattle.wesl_text_reading.proofs.Filled.{no_true}
@@ -22,9 +20,10 @@ use Rattle.wesl_link_engine.specs.Worlds.{Module, tables, task_of}
 use Rattle.wesl_link_engine.specs.Linked.{Placed, unit_of, IsAssembled}
 use Rattle.wesl_link_engine.specs.Resolved.{IsAssembledOf}
 use Rattle.wesl_link_engine.proofs.Lists.{trees_of}
-use Rattle.wesl_text_laws.specs.Laws.{AreWritable, AreSaid, HasNames, LinkedAreWritable, LinkedTexts}
+use Rattle.wesl_text_laws.specs.Laws.{are_named, AreWritable, AreSaid, HasNames, LinkedAreWritable, LinkedTexts}
 use Rattle.wesl_text_laws.proofs.Good.{Good, is_good, rows_are_good}
-use Rattle.wesl_text_laws.proofs.Shaped.{Named, named_of, respelled_by_shape, spelled_unplaced, spelled_shape, spelled_identifiers}
+use Rattle.wesl_text_laws.proofs.Needed.{rows_are_named}
+use Rattle.wesl_text_laws.proofs.Shaped.{respelled_by_shape, spelled_unplaced, spelled_shape}
 use Rattle.wesl_text_laws.proofs.Modules.{directive_of, declaration_of}
 
 -- ---- the parts, before names are given
@@ -58,22 +57,23 @@ module _ (w : List Module) (task : Task Path Text) (names : Path → Text → Te
   unit_shape : shape (forest_of_unit (spelled unit)) ≡ shape (without_paths (forest_of_unit source))
   unit_shape = ap (λ z. shape (forest_of_unit z)) a.linked.named ∙ (spelled_shape (printed_as names) (forest_of_unit a.linked.linked) ∙ a.linked.same_shape)
 
-  unit_named : HasNames unit → Named (forest_of_unit (spelled unit))
-  unit_named h = named_of (forest_of_unit (spelled unit)) (λ x c.
-      let y : (i : ℕ) × Contains (numbers unit) i × (name_in unit.names i ≡ x)
-      = contains_map (name_in unit.names) (numbers unit) x (subst (λ z. Contains z x) (spelled_identifiers (name_in unit.names) (forest_of_unit (numbered unit))) c) in
-      ap is_name (turned y.2) ∙ h (name_in unit.names y.0) (Contains-get_or unit.names y.0 [] ((a.linked.table y.0).1 y.1)))
-
   unit_respelled : HasNames unit → IsRespelled (forest_of_unit source) (forest_of_unit (spelled unit))
   unit_respelled h =
-      respelled_by_shape (forest_of_unit source) (forest_of_unit (spelled unit)) source_good (spelled_unplaced (name_in unit.names) (forest_of_unit (numbered unit))) (unit_named h) unit_shape
+      respelled_by_shape (forest_of_unit source) (forest_of_unit (spelled unit)) source_good (spelled_unplaced (name_in unit.names) (forest_of_unit (numbered unit))) h unit_shape
+
+-- what is writable has names
+names_needed : (u : UnitOf Text) → IsWritable u ≡ true → are_named 0 (forest_of_unit u) ≡ true
+names_needed u h = by (slots u) (rows_are_named (forest_of_unit u) unit_row refl refl) h where
+  by : (s : Slots) → Good (are_named 0 (forest_of_unit u)) s → are_writable s ≡ true → are_named 0 (forest_of_unit u) ≡ true
+  by None g h = absurd (no_true h)
+  by (Some ss) g h = g
 
 pub linked_are_writable : LinkedAreWritable
-linked_are_writable w task names unit writable a h =
-    respelled_units (source w task names unit writable a) (spelled unit) (unit_respelled w task names unit writable a h) (source_writable w task names unit writable a)
+linked_are_writable w task names unit writable a =
+    (names_needed (spelled unit), λ h. respelled_units (source w task names unit writable a) (spelled unit) (unit_respelled w task names unit writable a h) (source_writable w task names unit writable a))
 
 pub linked_texts : LinkedTexts
-linked_texts r unit said a h = by r.modules said a where
-  by : (w : List Module) → AreSaid w → IsAssembledOf r w unit → IsWritable (spelled unit) ≡ true
-  by [] s e = ap (λ z. IsWritable (spelled z)) e
-  by (root ∷ others) s e = linked_are_writable (root ∷ others) (task_of root r.kept r.is_eager) r.names unit (λ m c. said_are_writable (s m c).0 m.unit (s m c).1) e h
+linked_texts r unit said a = by r.modules said a where
+  by : (w : List Module) → AreSaid w → IsAssembledOf r w unit → (IsWritable (spelled unit) ≡ true) ↔ HasNames unit
+  by [] s e = (names_needed (spelled unit), λ h. ap (λ z. IsWritable (spelled z)) e)
+  by (root ∷ others) s e = linked_are_writable (root ∷ others) (task_of root r.kept r.is_eager) r.names unit (λ m c. said_are_writable (s m c).0 m.unit (s m c).1) e

@@ -1,10 +1,10 @@
 //! What is promised of the text of linked units.
 ghost use Rattle.wesl_text_laws.specs.Laws.{LinkedAreWritable, LinkedTexts};
 
-/// The linked form of modules whose units are writable, as each is that a text says, is writable once its printed names are
-/// names: declarations stay as they are but for names and paths, and no comparison becomes a template list. It speaks of the
-/// units of `Resolutions::assemble` and of `link_mapped`. A unit with the assignment to `_` has a name that is none: of such
-/// nothing is said.
+/// The linked form of modules whose units are writable, as each is that a text says, is writable exactly where its printed names
+/// are names: declarations stay as they are but for names and paths, and no comparison becomes a template list. The `_` of an
+/// assignment that discards its value is no name that is printed. It speaks of the units of `Resolutions::assemble` and of
+/// `link_mapped`.
 pub fn law_of_linked_text()
     ensures linked_are_writable { LinkedAreWritable }
     ensures linked_texts { LinkedTexts }

@@ -1,19 +1,21 @@
 -- What is printed for trees with other names, node by node.
-use Rattle.std.proofs.Common.{◌≡◌, ◌⊎◌, zero, Bool, true, false, not, ◌&&◌, ◌||◌, if◌then◌else◌, [], ◌∷◌, ◌++◌, Option, Some, None, option_and_then, refl, sym as turned, inl, inr, ap, ap₂, ◌∙◌, subst, codes}
+use Rattle.std.proofs.Common.{◌≡◌, ◌⊎◌, zero, Bool, true, false, not, ◌&&◌, ◌||◌, if◌then◌else◌, [], ◌∷◌, ◌++◌, Option, Some, None, option_and_then, refl, sym as turned, inl, inr, ap, ap₂, ◌∙◌, subst, codes, bytes_eq}
 use Rattle.std.proofs.lemmas.Slice.Eq.{bytes_eq-Decides}
 use Rattle.wesl_tree_names.specs.Path.{Text, Path}
-use Rattle.wesl_tree_syntax.specs.Tree.{Role, kind, at, ident, path, end, tree, reference, present, absent, list, type_expression, type_or_identifier, expression_node}
+use Rattle.wesl_tree_syntax.specs.Tree.{Role, kind, at, ident, path, assignment, end, tree, reference, present, absent, attributes, list, type_expression, type_or_identifier, expression_node}
+use Rattle.wesl_tree_syntax.specs.declared.statement.AssignmentOperator.TheVariants as assignment_operator
+use Rattle.wesl_text_tokens.specs.declared.symbol.Symbol.TheVariants as is
 use Rattle.wesl_text_form.specs.Names.{is_name, is_word, is_path}
 use Rattle.wesl_text_form.specs.Operators.{class_of, is_tight}
-use Rattle.wesl_text_form.specs.Productions.{Sort, an_expression, a_type, an_argument, Leaf, an_ident, a_path, Row, nothing, opens, closes, leaf, commas, optional, row_of}
-use Rattle.wesl_text_form.specs.Spelling.{Label, Forest, Slots, spells, followed, provided, named, stepped, origin_slots, leaf_slots, first_slots, fits, stands_as, label_at, below_first, from_place, is_kind, is_underscore, is_wildcard, leads_to_place, is_end, is_empty_at, is_absent_at}
+use Rattle.wesl_text_form.specs.Productions.{Sort, an_expression, a_type, an_argument, an_attribute, a_bare_statement, Leaf, an_ident, a_path, Row, nothing, sym, opens, closes, own, leaf, commas, optional, target, attrs, row_of}
+use Rattle.wesl_text_form.specs.Spelling.{Label, Forest, Slots, spells, followed, provided, named, stepped, origin_slots, leaf_slots, first_slots, fits, stands_as, label_at, below_first, from_place, begins_enclosed, are_apart, is_kind, is_underscore, is_wildcard, leads_to_place, is_end, is_empty_at, is_absent_at}
 use Rattle.wesl_text_reading.proofs.Filled.{no_some, no_true}
 use Rattle.wesl_text_reading.proofs.KindsAgain.{label_is}
-use Rattle.wesl_text_respell.specs.Respelled.{MayBecome, IsRespelled, ends, same, renamed, unqualified}
-use Rattle.wesl_text_respell.proofs.Kept.{end_kept, kind_kept, class_kept, leads_kept, lone_kept, fits_kept, stands_kept, type_kept}
-use Rattle.wesl_text_respell.proofs.Related.{none, other, like_self, Follows, follows_self, follows_either}
-use Rattle.wesl_text_respell.proofs.Leaves.{leaf_kept, leaf_renamed, path_gone, ident_begins}
-use Rattle.wesl_text_respell.proofs.Trees.{rows_fair, TreesFollow, none_follow, place, tree_follows}
+use Rattle.wesl_text_respell.specs.Respelled.{named_by, qualified_by, IsNamed, MayBecome, IsRespelled, ends, same, renamed, unqualified, discards}
+use Rattle.wesl_text_respell.proofs.Kept.{end_kept, kind_kept, class_kept, leads_kept, open_kept, lone_kept, fits_kept, stands_kept, type_kept}
+use Rattle.wesl_text_respell.proofs.Related.{none, other, like_self, Follows, follows_self, follows_joined, follows_either}
+use Rattle.wesl_text_respell.proofs.Leaves.{leaf_kept, leaf_renamed, Begin, path_gone, ident_begins}
+use Rattle.wesl_text_respell.proofs.Trees.{rows_fair, TreesFollow, none_follow, place, target_is, tree_follows}
 
 -- ---- nodes
 
@@ -92,17 +94,13 @@ pathless_type {f = f} {g = g} q r below s = type_follows (tree (kind present) (t
 
 -- ---- `_`
 
--- the trees below an expression that is `_`, or another name
-abbrev word_below : Text → Forest
-word_below t = tree (kind type_or_identifier) (tree (kind type_expression) (tree (kind absent) end (tree (ident reference t) end (tree (kind absent) end end))) end) end
+abbrev pub Wild : Label → Forest → Type 0
+Wild l c = (l ≡ at expression_node 0 0) × (c ≡ named_by (codes "_"))
 
-abbrev Wild : Label → Forest → Type 0
-Wild l c = (l ≡ at expression_node 0 0) × (c ≡ word_below (codes "_"))
-
-wild_is : (l : Label) (c : Forest) → is_wildcard l c ≡ true → Wild l c
+pub wild_is : (l : Label) (c : Forest) → is_wildcard l c ≡ true → Wild l c
 wild_is (at expression_node zero zero) (tree (kind type_or_identifier) (tree (kind type_expression) (tree (kind absent) end (tree m end (tree (kind absent) end end))) end) end) h = by m h where
   by : (m : Label) → is_underscore m ≡ true → Wild (at expression_node 0 0) (tree (kind type_or_identifier) (tree (kind type_expression) (tree (kind absent) end (tree m end (tree (kind absent) end end))) end) end)
-  by (ident reference t) h = (refl, ap word_below ((bytes_eq-Decides t (codes "_")).0 h))
+  by (ident reference t) h = (refl, ap named_by ((bytes_eq-Decides t (codes "_")).0 h))
   by m h = absurd (no_true h)
 wild_is l c h = absurd (no_true h)
 
@@ -118,36 +116,33 @@ no_name = by (is_word (codes "_")) where
 
 -- `_` becomes a name, or stays
 abbrev WildBecomes : Forest → Type 0
-WildBecomes d = (d ≡ word_below (codes "_")) ⊎ ((y : Text) × (is_name y ≡ true) × (d ≡ word_below y))
+WildBecomes d = (d ≡ named_by (codes "_")) ⊎ ((y : Text) × (is_name y ≡ true) × (d ≡ named_by y))
 
-wild_becomes : {d : Forest} → IsRespelled (word_below (codes "_")) d → WildBecomes d
+wild_becomes : {d : Forest} → IsRespelled (named_by (codes "_")) d → WildBecomes d
 wild_becomes (same m (same n (same k ends (same j ends (same i ends ends))) ends) ends) = inl refl
 wild_becomes (same m (same n (same k ends (renamed r x y (inl h) ends (same i ends ends))) ends) ends) = inr (y, h, refl)
-wild_becomes (same m (same n (same k ends (renamed r x y (inr q) ends (same i ends ends))) ends) ends) = inl (ap word_below q)
+wild_becomes (same m (same n (same k ends (renamed r x y (inr q) ends (same i ends ends))) ends) ends) = inl (ap named_by q)
 
 -- what becomes `_` was `_`, or has no slots
 abbrev WildWas : Label → Forest → Type 0
-WildWas l c = (c ≡ word_below (codes "_")) ⊎ (first_slots l c (spells c) an_expression ≡ None)
-
-abbrev path_below : Path → Text → Forest
-path_below q t = tree (kind type_or_identifier) (tree (kind type_expression) (tree (kind present) (tree (path q) end end) (tree (ident reference t) end (tree (kind absent) end end))) end) end
+WildWas l c = (c ≡ named_by (codes "_")) ⊎ (first_slots l c (spells c) an_expression ≡ None)
 
 abbrev path_slots : Bool → Path → Text → Slots
 path_slots z q t = followed (followed (followed (followed (provided (is_path false q) (origin_slots false q.origin ++ stepped q.components)) (Some [])) (followed (provided z (named t ∷ [])) (Some []))) (Some [])) (Some [])
 
-path_none : (q : Path) → first_slots (at expression_node 0 0) (path_below q (codes "_")) (spells (path_below q (codes "_"))) an_expression ≡ None
+path_none : (q : Path) → first_slots (at expression_node 0 0) (qualified_by q (codes "_")) (spells (qualified_by q (codes "_"))) an_expression ≡ None
 path_none q =
     ap (λ z. path_slots z q (codes "_")) no_name
     ∙ ap (λ z. followed (followed z (Some [])) (Some [])) (no_slots (followed (provided (is_path false q) (origin_slots false q.origin ++ stepped q.components)) (Some [])))
 
-wild_was : {c : Forest} → IsRespelled c (word_below (codes "_")) → WildWas (at expression_node 0 0) c
+wild_was : {c : Forest} → IsRespelled c (named_by (codes "_")) → WildWas (at expression_node 0 0) c
 wild_was (same m (same n (same k ends (same j ends (same i ends ends))) ends) ends) = inl refl
 wild_was (same m (same n (same k ends (renamed r x y (inl h) ends (same i ends ends))) ends) ends) = absurd (no_true (turned no_name ∙ h))
-wild_was (same m (same n (same k ends (renamed r x y (inr p) ends (same i ends ends))) ends) ends) = inl (ap word_below (turned p))
+wild_was (same m (same n (same k ends (renamed r x y (inr p) ends (same i ends ends))) ends) ends) = inl (ap named_by (turned p))
 wild_was (same m (unqualified q (same j ends (same i ends ends)) ends) ends) = inr (path_none q)
 wild_was (same m (unqualified q (renamed r x y (inl h) ends (same i ends ends)) ends) ends) = absurd (no_true (turned no_name ∙ h))
 wild_was (same m (unqualified q (renamed r x y (inr p) ends (same i ends ends)) ends) ends) =
-    inr (ap (λ z. first_slots (at expression_node 0 0) (path_below q z) (spells (path_below q z)) an_expression) (turned p) ∙ path_none q)
+    inr (ap (λ z. first_slots (at expression_node 0 0) (qualified_by q z) (spells (qualified_by q z)) an_expression) (turned p) ∙ path_none q)
 
 -- slots by a test, of which there are none
 none_follows : (b : Bool) (x y : Slots) → x ≡ None → Follows (if b then x else None) y
@@ -215,8 +210,76 @@ unqualified_follows {f = f} {g = g} {o = o} {p = p} q r k below later =
     tree_follows (kind type_expression) (kind type_expression) (tree (kind present) (tree (path q) end end) f) (tree (kind absent) end g) o p (pathless_type q r below) (λ k. refl) (λ f. leaf_follows f (kind type_expression) k)
     (λ j e t. absurd (no_true (turned t ∙ e))) refl refl tt (kind_kept absent 0 k) later k
 
+-- ---- an assignment that discards its value
+
+abbrev wild : Forest
+wild = named_by (codes "_")
+
+abbrev node : Label
+node = at expression_node 0 0
+
+-- a name becomes `_`
+discarded : (x : Text) → Follows (place node (named_by x)) (place node wild)
+discarded x = by (bytes_eq x (codes "_")) (is_name x) where
+  by : (z n : Bool) → Follows (if z then Some (named (codes "_") ∷ []) else word_slots n x) (Some (named (codes "_") ∷ []))
+  by true n = like_self (named (codes "_") ∷ [])
+  by false true = other x (codes "_") none
+  by false false = tt
+
+-- and so does one with a path
+discarded_path : (q : Path) (x : Text) → Follows (place node (qualified_by q x)) (place node wild)
+discarded_path q x =
+    follows_joined (followed (followed (followed (provided (is_path false q) (origin_slots false q.origin ++ stepped q.components)) (Some [])) (followed (provided (is_name x) (named x ∷ [])) (Some []))) (Some [])) (Some (named (codes "_") ∷ [])) (Some []) (Some [])
+    (follows_joined (followed (followed (provided (is_path false q) (origin_slots false q.origin ++ stepped q.components)) (Some [])) (followed (provided (is_name x) (named x ∷ [])) (Some []))) (Some (named (codes "_") ∷ [])) (Some []) (Some [])
+    (path_gone q (followed (provided (is_name x) (named x ∷ [])) (Some [])) (Some (named (codes "_") ∷ [])) (begun (is_name x)) (by (is_name x))) none) none where
+      begun : (n : Bool) → Begin (followed (provided n (named x ∷ [])) (Some []))
+      begun true = (x, [], refl)
+      begun false = tt
+
+      by : (n : Bool) → Follows (followed (provided n (named x ∷ [])) (Some [])) (Some (named (codes "_") ∷ []))
+      by true = other x (codes "_") none
+      by false = tt
+
+discarded_target : (t : Forest) → IsNamed t → Follows (place node t) (place node wild)
+discarded_target t (inl x) = subst (λ z. Follows (place node z) (place node wild)) (turned x.1) (discarded x.0)
+discarded_target t (inr x) = subst (λ z. Follows (place node z) (place node wild)) (turned x.2) (discarded_path x.0 x.1)
+
+no_parentheses : (t v : Forest) → IsNamed t → begins_enclosed (tree node t v) ≡ false
+no_parentheses t v (inl x) = ap (λ z. begins_enclosed (tree node z v)) x.1
+no_parentheses t v (inr x) = ap (λ z. begins_enclosed (tree node z v)) x.2
+
+abbrev behind_target : Row
+behind_target = sym is.Equal (own an_expression (sym is.Semicolon nothing))
+
+module _ {a b v w : Forest} (t : Forest) (n : IsNamed t) (x : IsRespelled a b) (attributes_follow : TreesFollow a b) (value : TreesFollow v w) where
+  abbrev old : Forest
+  old = tree (kind attributes) a (tree node t v)
+
+  abbrev new : Forest
+  new = tree (kind attributes) b (tree node wild w)
+
+  apart : are_apart new ≡ are_apart old
+  apart = ap₂ (λ y z. not (y && z)) (open_kept x) (turned (no_parentheses t v n))
+
+  discards_row : Follows ((spells old).row (attrs (target behind_target))) ((spells new).row (attrs (target behind_target)))
+  discards_row =
+      follows_joined ((spells a).all an_attribute) ((spells b).all an_attribute) ((spells (tree node t v)).row (target behind_target)) ((spells (tree node wild w)).row (target behind_target)) (attributes_follow.all an_attribute)
+      (subst (λ z. Follows z ((spells (tree node wild w)).row (target behind_target))) (turned (target_is node t v behind_target))
+      (follows_joined (place node t) (place node wild) ((spells v).row behind_target) ((spells w).row behind_target) (discarded_target t n) (value.row behind_target refl)))
+
+  discards_first : (s : Sort) → Follows (first_slots (assignment assignment_operator.Equal) old (spells old) s) (first_slots (assignment assignment_operator.Equal) new (spells new) s)
+  discards_first a_bare_statement =
+      follows_either (are_apart old && true) (are_apart new && true) ((spells old).row (attrs (target behind_target))) None ((spells new).row (attrs (target behind_target))) None (ap (λ z. z && true) apart) (λ e. discards_row) (λ e. tt)
+  discards_first s = tt
+
+  discards_follow : {o p : Forest} → IsRespelled o p → TreesFollow o p → TreesFollow (tree (assignment assignment_operator.Equal) old o) (tree (assignment assignment_operator.Equal) new p)
+  discards_follow {o = o} {p = p} q later =
+      tree_follows (assignment assignment_operator.Equal) (assignment assignment_operator.Equal) old new o p discards_first (λ k. refl) (λ f. leaf_follows f (assignment assignment_operator.Equal) q)
+      (λ k e g. absurd (no_true e)) refl refl tt (kind_kept absent 0 q) later q
+
 pub follow : {f g : Forest} → IsRespelled f g → TreesFollow f g
 follow ends = none_follow
 follow (same l r q) = same_follows l r q (follow r) (follow q)
 follow (renamed r x y h k q) = renamed_follows r x y h k q (follow k) (follow q)
 follow (unqualified p r q) = unqualified_follows p r q (follow r) (follow q)
+follow (discards {target = t} n x y q) = discards_follow t n x (follow x) (follow y) q (follow q)

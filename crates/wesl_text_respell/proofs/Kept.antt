@@ -1,12 +1,12 @@
 -- What is asked of trees beside their rows is the same of trees with other names.
-use Rattle.std.proofs.Common.{◌≡◌, ℕ, zero, suc, false, not, ◌&&◌, ◌||◌, Some, refl, sym as turned, ap, ap₂, ◌∙◌}
-use Rattle.wesl_tree_syntax.specs.Tree.{Kind, kind, at, ident, unary, binary, assignment, end, tree, absent, custom, type_or_identifier, type_expression, named_component, indexing, parenthesized, increment, decrement, declaration, switch_clause, for_loop, workgroup_size, default_case, override_kind, let_kind, var_kind}
+use Rattle.std.proofs.Common.{◌≡◌, ℕ, zero, suc, false, not, ◌&&◌, ◌||◌, Some, refl, sym as turned, inl, inr, ap, ap₂, ◌∙◌, codes}
+use Rattle.wesl_tree_syntax.specs.Tree.{Kind, kind, at, ident, unary, binary, assignment, end, tree, absent, attributes, expression_node, custom, type_or_identifier, type_expression, named_component, indexing, parenthesized, increment, decrement, declaration, switch_clause, for_loop, workgroup_size, default_case, override_kind, let_kind, var_kind}
 use Rattle.wesl_tree_syntax.specs.declared.statement.AssignmentOperator.TheVariants as assignment_operator
 use Rattle.wesl_text_form.specs.Operators.{primary, same_class, class_of, operator_class, is_tight, takes_left, takes_right, is_place_operator}
 use Rattle.wesl_text_form.specs.Productions.{Sort, a_bare_statement}
 use Rattle.wesl_text_form.specs.Spelling.{Label, Forest, label_at, below_first, from_place, is_kind, is_end, class_at, leads_to_place, ends_open, begins_enclosed, are_apart, is_target_at, is_empty_at, is_absent_at, is_simple, is_simple_at, fits, stands_as, is_lone_default}
 use Rattle.wesl_text_reading.proofs.Filled.{no_true}
-use Rattle.wesl_text_respell.specs.Respelled.{IsRespelled, ends, same, renamed, unqualified}
+use Rattle.wesl_text_respell.specs.Respelled.{named_by, IsNamed, IsRespelled, ends, same, renamed, unqualified, discards}
 
 -- the trees from a place on
 place_kept : {c d : Forest} (n : ℕ) → IsRespelled c d → IsRespelled (from_place n c) (from_place n d)
@@ -14,15 +14,18 @@ place_kept n ends = ends
 place_kept zero (same l c o) = same l c o
 place_kept zero (renamed r x y h c o) = renamed r x y h c o
 place_kept zero (unqualified q c o) = unqualified q c o
+place_kept zero (discards n a v o) = discards n a v o
 place_kept (suc n) (same l c o) = place_kept n o
 place_kept (suc n) (renamed r x y h c o) = place_kept n o
 place_kept (suc n) (unqualified q c o) = place_kept n o
+place_kept (suc n) (discards m a v o) = place_kept n o
 
 pub end_kept : {c d : Forest} → IsRespelled c d → is_end d ≡ is_end c
 end_kept ends = refl
 end_kept (same l c o) = refl
 end_kept (renamed r x y h c o) = refl
 end_kept (unqualified q c o) = refl
+end_kept (discards n a v o) = refl
 
 -- ---- kinds and classes
 
@@ -31,21 +34,25 @@ kind_kept k n ends = refl
 kind_kept k zero (same l c o) = refl
 kind_kept k zero (renamed r x y h c o) = refl
 kind_kept k zero (unqualified q c o) = refl
+kind_kept k zero (discards n a v o) = refl
 kind_kept k (suc n) (same l c o) = kind_kept k n o
 kind_kept k (suc n) (renamed r x y h c o) = kind_kept k n o
 kind_kept k (suc n) (unqualified q c o) = kind_kept k n o
+kind_kept k (suc n) (discards m a v o) = kind_kept k n o
 
 pub class_kept : {c d : Forest} → IsRespelled c d → class_of (label_at 0 d) ≡ class_of (label_at 0 c)
 class_kept ends = refl
 class_kept (same l c o) = refl
 class_kept (renamed r x y h c o) = refl
 class_kept (unqualified q c o) = refl
+class_kept (discards n a v o) = refl
 
 class_below : {c d : Forest} → IsRespelled c d → class_of (label_at 0 (below_first d)) ≡ class_of (label_at 0 (below_first c))
 class_below ends = refl
 class_below (same l c o) = class_kept c
 class_below (renamed r x y h c o) = class_kept c
 class_below (unqualified q c o) = refl
+class_below (discards n a v o) = refl
 
 class_there : {c d : Forest} (n : ℕ) → IsRespelled c d → class_at n d ≡ class_at n c
 class_there n r = class_below (place_kept n r)
@@ -56,6 +63,7 @@ pub leads_kept : {c d : Forest} → IsRespelled c d → leads_to_place d ≡ lea
 leads_kept ends = refl
 leads_kept (renamed r x y h c o) = refl
 leads_kept (unqualified q c o) = refl
+leads_kept (discards n a v o) = refl
 leads_kept (same (at k s e) c o) = leads_kept c
 leads_kept (same (kind type_or_identifier) c o) = refl
 leads_kept (same (kind named_component) c o) = leads_kept c
@@ -68,6 +76,7 @@ enclosed_kept : {c d : Forest} → IsRespelled c d → begins_enclosed d ≡ beg
 enclosed_kept ends = refl
 enclosed_kept (renamed r x y h c o) = refl
 enclosed_kept (unqualified q c o) = refl
+enclosed_kept (discards n a v o) = refl
 enclosed_kept (same (at k s e) c o) = enclosed_kept c
 enclosed_kept (same (kind named_component) c o) = enclosed_kept c
 enclosed_kept (same (kind indexing) c o) = enclosed_kept c
@@ -78,19 +87,36 @@ open_from : {c d o p : Forest} (l m : Label) → IsRespelled c d → IsRespelled
 open_from l m (same (kind custom) (same n b (same (kind absent) ends ends)) ends) ends h = refl
 open_from l m (same (kind custom) (renamed n x y g b (same (kind absent) ends ends)) ends) ends h = refl
 open_from l m (same (kind custom) (unqualified n b (same (kind absent) ends ends)) ends) ends h = refl
+open_from l m (same (kind custom) (discards n b v (same (kind absent) ends ends)) ends) ends h = refl
 open_from l m c o h = h
 
-open_kept : {c d : Forest} → IsRespelled c d → ends_open d ≡ ends_open c
+pub open_kept : {c d : Forest} → IsRespelled c d → ends_open d ≡ ends_open c
 open_kept ends = refl
 open_kept (same l c o) = open_from l l c o (open_kept o)
 open_kept (renamed r x y h c o) = open_from (ident r x) (ident r y) c o (open_kept o)
 open_kept (unqualified q c o) = open_kept o
+open_kept (discards n a v o) = open_kept o
+
+-- the first of two has no bearing
+open_second : (l : Label) (c : Forest) (m : Label) (d o : Forest) → ends_open (tree l c (tree m d o)) ≡ ends_open (tree m d o)
+open_second l (tree (kind custom) (tree k b (tree (kind absent) end end)) end) m d o = refl
+open_second l c m d o = refl
+
+-- nor has a name
+open_named : (t o : Forest) → IsNamed t → ends_open (tree (at expression_node 0 0) t o) ≡ ends_open o
+open_named t o (inl x) = ap (λ z. ends_open (tree (at expression_node 0 0) z o)) x.1
+open_named t o (inr x) = ap (λ z. ends_open (tree (at expression_node 0 0) z o)) x.2
+
+open_discards : {v w : Forest} (a b t u : Forest) → IsNamed t → IsNamed u → IsRespelled v w → ends_open (tree (kind attributes) b (tree (at expression_node 0 0) u w)) ≡ ends_open (tree (kind attributes) a (tree (at expression_node 0 0) t v))
+open_discards {v = v} {w = w} a b t u n m r =
+    open_second (kind attributes) b (at expression_node 0 0) u w ∙ (open_named u w m ∙ (open_kept r ∙ turned (open_second (kind attributes) a (at expression_node 0 0) t v ∙ open_named t v n)))
 
 open_below : {c d : Forest} → IsRespelled c d → ends_open (below_first d) ≡ ends_open (below_first c)
 open_below ends = refl
 open_below (same l c o) = open_kept c
 open_below (renamed r x y h c o) = open_kept c
 open_below (unqualified q c o) = open_kept c
+open_below (discards {own = a} {target = t} {new_own = b} n x v o) = open_discards a b t (named_by (codes "_")) n (inl (codes "_", refl)) v
 
 apart_kept : {c d : Forest} → IsRespelled c d → are_apart d ≡ are_apart c
 apart_kept r = ap₂ (λ a b. not (a && b)) (open_below r) (enclosed_kept (place_kept 1 r))
@@ -105,24 +131,28 @@ empty_below ends = refl
 empty_below (same l c o) = end_kept c
 empty_below (renamed r x y h c o) = end_kept c
 empty_below (unqualified q c o) = refl
+empty_below (discards n a v o) = refl
 
 simple_kept : {c d : Forest} → IsRespelled c d → is_simple (label_at 0 d) ≡ is_simple (label_at 0 c)
 simple_kept ends = refl
 simple_kept (same l c o) = refl
 simple_kept (renamed r x y h c o) = refl
 simple_kept (unqualified q c o) = refl
+simple_kept (discards n a v o) = refl
 
 simple_below : {c d : Forest} → IsRespelled c d → is_simple (label_at 0 (below_first d)) ≡ is_simple (label_at 0 (below_first c))
 simple_below ends = refl
 simple_below (same l c o) = simple_kept c
 simple_below (renamed r x y h c o) = simple_kept c
 simple_below (unqualified q c o) = refl
+simple_below (discards n a v o) = refl
 
 simple_within : {c d : Forest} → IsRespelled c d → is_simple (label_at 0 (below_first (below_first d))) ≡ is_simple (label_at 0 (below_first (below_first c)))
 simple_within ends = refl
 simple_within (same l c o) = simple_below c
 simple_within (renamed r x y h c o) = simple_below c
 simple_within (unqualified q c o) = refl
+simple_within (discards n a v o) = simple_kept a
 
 simple_there : {c d : Forest} (n : ℕ) → IsRespelled c d → is_simple_at n d ≡ is_simple_at n c
 simple_there n r = ap₂ (λ a b. a || b) (kind_kept absent n r) (simple_within (place_kept n r))
@@ -132,6 +162,7 @@ lone_kept (same (kind default_case) ends ends) = refl
 lone_kept ends = refl
 lone_kept (renamed r x y h c o) = refl
 lone_kept (unqualified q c o) = refl
+lone_kept (discards n a v o) = refl
 lone_kept (same l c o) = refl
 
 -- ---- whether children fit
@@ -169,6 +200,7 @@ arguments_kept ends t = refl
 arguments_kept (same l c o) t = empty_below (place_kept 0 c)
 arguments_kept (renamed r x y h c o) t = empty_below (place_kept 0 c)
 arguments_kept (unqualified q c o) t = absurd (no_true (turned t))
+arguments_kept (discards n a v o) t = end_kept a
 
 pub type_kept : {c d : Forest} (n : ℕ) → IsRespelled c d → is_kind type_expression (label_at n c) ≡ false
     → (is_absent_at n d || not (is_empty_at 0 (below_first (from_place n d)))) ≡ (is_absent_at n c || not (is_empty_at 0 (below_first (from_place n c))))

@@ -11,7 +11,7 @@ use Rattle.wesl_text_form.specs.Productions.{Sort, an_expression, a_bare_express
 use Rattle.wesl_text_form.specs.Spelling.{Label, Forest, Slots, spells, followed, named, signed, trailing, leaf_slots, first_slots, row_slots, row_of_none, with_comma, label_at, is_kind, is_wildcard, leads_to_place, is_lone_default, is_end, is_absent_at, without_last}
 use Rattle.wesl_text_reading.proofs.Filled.{no_some, of_some, no_true}
 use Rattle.wesl_text_reading.proofs.Takes.{and_parts, at_rows}
-use Rattle.wesl_text_respell.specs.Respelled.{IsRespelled, ends, same, renamed, unqualified}
+use Rattle.wesl_text_respell.specs.Respelled.{IsRespelled, ends, same, renamed, unqualified, discards}
 use Rattle.wesl_text_respell.proofs.Ended.{nodes_are_ended}
 use Rattle.wesl_text_respell.proofs.Related.{none, like_self, Follows, follows_self, follows_joined, follows_trailing, follows_comma, follows_cut, follows_either}
 
@@ -84,7 +84,7 @@ place_first true t a b x = refl
 place_first false true a b x = refl
 place_first false false a b x = refl
 
-target_is : (l : Label) (c o : Forest) (row : Row) → row_slots l c o (spells c) (spells o) (target row) ≡ followed (place l c) ((spells o).row row)
+pub target_is : (l : Label) (c o : Forest) (row : Row) → row_slots l c o (spells c) (spells o) (target row) ≡ followed (place l c) ((spells o).row row)
 target_is l c o row = place_first (is_wildcard l c) (is_tight (class_of (label_at 0 c)) && leads_to_place c) (Some (named (codes "_") ∷ [])) (first_slots l c (spells c) an_expression) ((spells o).row row)
 
 -- ---- one tree, by what is known of its label
@@ -171,3 +171,4 @@ module _ (l m : Label) (c d o p : Forest) (firsts : (s : Sort) → Follows (firs
     by {o = o} {p = p} s (same k a b) q = follows_joined (first_slots l c (spells c) s) (first_slots m d (spells d) s) (option_map (λ ss. signed is.Comma ∷ ss) ((spells o).separate s)) (option_map (λ ss. signed is.Comma ∷ ss) ((spells p).separate s)) (firsts s) (follows_comma ((spells o).separate s) ((spells p).separate s) q)
     by {o = o} {p = p} s (renamed k x y n a b) q = follows_joined (first_slots l c (spells c) s) (first_slots m d (spells d) s) (option_map (λ ss. signed is.Comma ∷ ss) ((spells o).separate s)) (option_map (λ ss. signed is.Comma ∷ ss) ((spells p).separate s)) (firsts s) (follows_comma ((spells o).separate s) ((spells p).separate s) q)
     by {o = o} {p = p} s (unqualified k a b) q = follows_joined (first_slots l c (spells c) s) (first_slots m d (spells d) s) (option_map (λ ss. signed is.Comma ∷ ss) ((spells o).separate s)) (option_map (λ ss. signed is.Comma ∷ ss) ((spells p).separate s)) (firsts s) (follows_comma ((spells o).separate s) ((spells p).separate s) q)
+    by {o = o} {p = p} s (discards k a b e) q = follows_joined (first_slots l c (spells c) s) (first_slots m d (spells d) s) (option_map (λ ss. signed is.Comma ∷ ss) ((spells o).separate s)) (option_map (λ ss. signed is.Comma ∷ ss) ((spells p).separate s)) (firsts s) (follows_comma ((spells o).separate s) ((spells p).separate s) q)

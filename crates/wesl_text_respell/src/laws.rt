@@ -2,7 +2,8 @@
 ghost use Rattle.wesl_text_respell.specs.Laws.{RespelledUnits, RespelledTrees, UnitsOfParts, JoinedUnits};
 
 /// A tree in the place of a sort, and a unit, that are writable stay so where each identifier keeps its text or gets one that
-/// is a name, and where types lose their paths: comparisons and template lists are told apart as before.
+/// is a name, where types lose their paths, and where assignments to names discard their values: comparisons and template
+/// lists are told apart as before.
 pub fn law_of_respelling()
     ensures respelled_trees { RespelledTrees }
     ensures respelled_units { RespelledUnits }

@@ -1,0 +1,4 @@
+pub mod Plain
+pub mod Fine
+pub mod Read
+pub mod Formulas
