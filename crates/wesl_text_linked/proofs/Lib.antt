@@ -1,0 +1,4 @@
+pub mod Asked
+pub mod Named
+pub mod Texts
+pub mod Undefined
