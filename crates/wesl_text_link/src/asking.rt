@@ -1,5 +1,6 @@
 //! Where a module asks for an item of another one, uses a name, or binds one.
 use std::alloc::{AllocError, Global};
+use wesl_text_homes::Libraries;
 use wesl_text_project::or_memory;
 use wesl_tree::{
     Expression, ExpressionNode, GlobalDeclaration, Ident, ImportContent, ModulePath, Names,
@@ -10,7 +11,7 @@ use wesl_visit::Collect;
 /// What is looked for in a module.
 #[derive(Clone, Copy)]
 pub(crate) enum Wanted<'w> {
-    /// Where it asks for an item of a module, or without one for any item of it.
+    /// Where it asks for an item of the module at a path of a link, or without one for any item of it.
     Item(&'w ModulePath, Option<&'w str>),
     /// Where it uses a name without a path.
     Name(&'w str),
@@ -18,12 +19,21 @@ pub(crate) enum Wanted<'w> {
     Binder(&'w str),
 }
 
+/// Where a module stands.
+#[derive(Clone, Copy)]
+pub(crate) struct At<'a> {
+    /// its path, as the project has it
+    pub(crate) path: &'a ModulePath,
+    /// the libraries of the project
+    pub(crate) libraries: &'a Libraries,
+}
+
 // An item that a module imports.
 #[derive(Drop)]
 struct Imported {
-    // the module that has it
+    // the module that has it, as a link has it
     target: ModulePath,
-    // the item with its module's path before it
+    // the item with its module's path before it, as the project has it
     whole: ModulePath,
     // its name there
     item: String,
@@ -35,7 +45,7 @@ struct Imported {
 /// The places in the unit of a module.
 pub(crate) fn places_in(
     alloc: Global,
-    at: &ModulePath,
+    at: &At<'_>,
     unit: &TranslationUnit,
     wanted: Wanted<'_>,
 ) -> Result<Vec<Span>, AllocError> {
@@ -90,7 +100,7 @@ pub(crate) fn declared(declaration: &GlobalDeclaration) -> Option<Ident> {
 // The items that a unit imports.
 fn imports_of(
     alloc: Global,
-    at: &ModulePath,
+    at: &At<'_>,
     unit: &TranslationUnit,
 ) -> Result<Vec<Imported>, AllocError> {
     let mut imports = Vec::new(alloc);
@@ -100,6 +110,7 @@ fn imports_of(
             add_items(
                 &node.node.content,
                 alloc,
+                at.libraries,
                 &mut imports,
                 unit.names(),
                 start,
@@ -110,9 +121,9 @@ fn imports_of(
     Ok(imports)
 }
 
-// A path in a module, from outside.
-fn joined(alloc: Global, at: &ModulePath, path: &ModulePath) -> Result<ModulePath, AllocError> {
-    remembered(at.join_path(alloc, path))
+// A path in a module, from outside, as the project has it.
+fn joined(alloc: Global, at: &At<'_>, path: &ModulePath) -> Result<ModulePath, AllocError> {
+    remembered(at.path.join_path(alloc, path))
 }
 
 // What is refused for want of memory alone.
@@ -127,6 +138,7 @@ fn remembered<T, E: Drop>(answer: Result<T, E>) -> Result<T, AllocError> {
 fn add_items(
     content: &ImportContent,
     alloc: Global,
+    libraries: &Libraries,
     imports: &mut Vec<Imported>,
     names: &Names,
     target: ModulePath,
@@ -136,13 +148,21 @@ fn add_items(
         ImportContent::Item(item) => {
             let name = name_of(names, item.ident);
             let bound = name_of(names, item.rename.unwrap_or(item.ident));
-            let import = import_of(alloc, target, name, bound, span)?;
+            let import = import_of(alloc, libraries, target, name, bound, span)?;
             imports.push(import)?;
         }
         ImportContent::Collection(entries) => {
             for entry in entries {
                 let inner = remembered(target.join(alloc, &entry.path))?;
-                add_items(&entry.content, alloc, imports, names, inner, span)?;
+                add_items(
+                    &entry.content,
+                    alloc,
+                    libraries,
+                    imports,
+                    names,
+                    inner,
+                    span,
+                )?;
             }
         }
     }
@@ -152,12 +172,14 @@ fn add_items(
 // An imported item.
 fn import_of(
     alloc: Global,
-    target: ModulePath,
+    libraries: &Libraries,
+    module: ModulePath,
     item: &str,
     bound: &str,
     span: Span,
 ) -> Result<Imported, AllocError> {
-    let mut whole = remembered(target.try_clone(alloc))?;
+    let target = libraries.linked_path(alloc, &module)?;
+    let mut whole = module;
     remembered(whole.push(item))?;
     Ok(Imported {
         target,
@@ -191,7 +213,7 @@ fn add_binders(
 fn add_expressions(
     alloc: Global,
     places: &mut Vec<Span>,
-    at: &ModulePath,
+    at: &At<'_>,
     unit: &TranslationUnit,
     imports: &[Imported],
     wanted: Wanted<'_>,
@@ -220,7 +242,7 @@ fn type_of(expression: &Expression) -> Option<&TypeExpression> {
 fn add_declarations(
     alloc: Global,
     places: &mut Vec<Span>,
-    at: &ModulePath,
+    at: &At<'_>,
     unit: &TranslationUnit,
     imports: &[Imported],
     wanted: Wanted<'_>,
@@ -237,7 +259,7 @@ fn add_declarations(
 // Whether one of some types asks for what is looked for.
 fn has_wanted(
     alloc: Global,
-    at: &ModulePath,
+    at: &At<'_>,
     names: &Names,
     imports: &[Imported],
     types: &[&TypeExpression],
@@ -254,7 +276,7 @@ fn has_wanted(
 // Whether a type or name asks for what is looked for.
 fn is_type_wanted(
     alloc: Global,
-    at: &ModulePath,
+    at: &At<'_>,
     names: &Names,
     imports: &[Imported],
     ty: &TypeExpression,
@@ -277,22 +299,24 @@ fn is_type_wanted(
 // Whether a path leads to a module, by itself or by an import of its first name.
 fn leads_to(
     alloc: Global,
-    at: &ModulePath,
+    at: &At<'_>,
     imports: &[Imported],
     path: &ModulePath,
     module: &ModulePath,
 ) -> Result<bool, AllocError> {
-    if joined(alloc, at, path)? == *module {
+    let itself = joined(alloc, at, path)?;
+    if at.libraries.linked_path(alloc, &itself)? == *module {
         return Ok(true);
     }
     let PathOrigin::Package(first) = &path.origin else {
         return Ok(false);
     };
     for import in imports {
-        if import.bound.as_str() == first.as_str()
-            && remembered(import.whole.join(alloc, &path.components))? == *module
-        {
-            return Ok(true);
+        if import.bound.as_str() == first.as_str() {
+            let through = remembered(import.whole.join(alloc, &path.components))?;
+            if at.libraries.linked_path(alloc, &through)? == *module {
+                return Ok(true);
+            }
         }
     }
     Ok(false)

@@ -66,7 +66,7 @@ impl<'r, R> ProjectModules<'r, R> {
         };
         let name = name_of(unit.names(), ident);
         let origin = self.origin(map, root, name, node.span);
-        let path = origin.path;
+        let path = self.libraries.told_path(alloc, origin.path)?;
         let item = origin.item;
         match origin.module {
             Some(module) => {

@@ -3,21 +3,32 @@ ghost use Rattle.std.specs.Prelude.{◌≡◌, false};
 ghost use Rattle.wesl_tree_names.specs.Path.{path_view, is_relative};
 
 use crate::asking::name_of;
-use crate::modules::{ProjectModules, copy_of};
-use crate::naming::{Naming, named};
-use crate::validity::{Validation, check};
+use crate::mapping::MapWish;
+use crate::modules::ProjectModules;
 use std::alloc::{AllocError, Global};
 use std::rt::Files;
-use wesl_link::{Resolutions, resolve_eager, resolve_lazy};
+use wesl_mangle::{EscapeMangler, NoMangler, UnicodeMangler};
 use wesl_resolve_base::Resolver;
-use wesl_scope::{SyntaxUtil, names_clash};
-use wesl_text::{PrintFault, print_unit};
+use wesl_scope::SyntaxUtil;
+use wesl_text::PrintFault;
+use wesl_text_linked::{LinkRequest, LinkedUnit, TextRefusal, TextRequest, Validation};
 use wesl_text_project::{ProjectFault, or_memory};
-use wesl_tree::{Diagnostic, ModulePath, ResolveError, TranslationUnit};
+use wesl_tree::{ModulePath, ResolveError, TranslationUnit};
 use wesl_validate_builtins::Builtins;
 
 // How many modules may be loaded, as for a bundle that tells no other number.
 const MOST_MODULES: usize = 1000;
+
+/// How the names of modules are written.
+#[derive(Clone, Copy)]
+pub enum Naming {
+    /// by the mangler that escapes underscores
+    Escape,
+    /// by the one that joins paths by a character of their own
+    Unicode,
+    /// as they are
+    Own,
+}
 
 /// What a link is asked for.
 #[derive(Clone, Copy)]
@@ -38,6 +49,8 @@ pub struct LinkWish<'w> {
     pub builtins: &'w Builtins,
     /// Whether a comment stands before each declaration.
     pub has_comments: bool,
+    /// The source map that is asked for, if one is.
+    pub map: Option<MapWish<'w>>,
 }
 
 /// The text of a linked unit, and whether its names would be read otherwise than meant.
@@ -49,6 +62,8 @@ pub struct LinkedText {
     pub clash: bool,
     /// The lines that tell which names clash.
     pub notes: String,
+    /// Its source map, if one was asked for.
+    pub map: Option<String>,
 }
 
 /// Links the modules of a project, and prints the linked unit.
@@ -68,12 +83,12 @@ pub fn linked_text<R: Files + AllocGlobal>(
         Ok(unit) => unit,
         Err(refusal) => return Err(root_fault(alloc, modules, wish, refusal)),
     };
-    let keep = kept_names(alloc, &unit, wish)?;
-    let found = match resolutions(alloc, modules, wish, unit, &keep) {
-        Ok(found) => found,
-        Err(diagnostic) => return Err(modules.told(alloc, &diagnostic)),
-    };
-    assembled_text(alloc, modules, wish, found)
+    let names = kept_names(alloc, &unit, wish)?;
+    let keep = lent(alloc, &names)?;
+    match text_of(alloc, modules, wish, unit, &keep) {
+        Ok(found) => told_text(alloc, modules, wish, found),
+        Err(refusal) => Err(told_refusal(alloc, modules, refusal)),
+    }
 }
 
 // The fault of a root that cannot be had.
@@ -138,21 +153,44 @@ fn entry_points(alloc: Global, unit: &TranslationUnit) -> Result<Vec<String>, Pr
     Ok(names)
 }
 
-// What is found of the link.
-fn resolutions<R: Files + AllocGlobal>(
+// The text of the linked unit, under the names that are wished.
+fn text_of<R: Files + AllocGlobal>(
     alloc: Global,
     modules: &mut ProjectModules<'_, R>,
     wish: &LinkWish<'_>,
     unit: TranslationUnit,
-    keep: &[String],
-) -> Result<Resolutions, Diagnostic>
+    keep: &[&str],
+) -> Result<wesl_text_linked::LinkedText, TextRefusal>
     requires rooted { is_relative (path_view wish.now.root.now) ≡ false }
 {
-    if wish.is_eager {
-        return resolve_eager(alloc, unit, wish.root, modules, MOST_MODULES);
+    let request = TextRequest {
+        link: LinkRequest {
+            root: wish.root,
+            keep,
+            is_eager: wish.is_eager,
+            max_modules: MOST_MODULES,
+        },
+        mangle_root: wish.mangle_root,
+        validation: wish.validation,
+        builtins: wish.builtins,
+    };
+    match wish.naming {
+        Naming::Escape => wesl_text_linked::linked_text(
+            alloc,
+            &request,
+            unit,
+            modules,
+            EscapeMangler,
+        ),
+        Naming::Unicode => wesl_text_linked::linked_text(
+            alloc,
+            &request,
+            unit,
+            modules,
+            UnicodeMangler,
+        ),
+        Naming::Own => wesl_text_linked::linked_text(alloc, &request, unit, modules, NoMangler),
     }
-    let kept = lent(alloc, keep)?;
-    resolve_lazy(alloc, &kept, unit, wish.root, modules, MOST_MODULES)
 }
 
 // Names as texts that are lent.
@@ -164,46 +202,67 @@ fn lent<'n>(alloc: Global, names: &'n [String]) -> Result<Vec<&'n str>, AllocErr
     Ok(texts)
 }
 
-// The text of what was found.
-fn assembled_text<R>(
+// The text of a linked unit as it is wished, with the notes of its clashes.
+fn told_text<R>(
     alloc: Global,
     modules: &ProjectModules<'_, R>,
     wish: &LinkWish<'_>,
-    found: Resolutions,
+    found: wesl_text_linked::LinkedText,
 ) -> Result<LinkedText, ProjectFault> {
-    let mut found = found;
-    let Some(root) = copy_of(alloc, wish.root) else {
-        return Err(ProjectFault::Memory);
-    };
-    let map = named(alloc, &mut found, root, wish.naming, wish.mangle_root)?;
-    let unit = or_memory(found.into_unit(alloc, true))?;
-    if let Err(diagnostic) = check(alloc, &unit, wish.builtins, wish.validation) {
-        return Err(modules.told(alloc, &diagnostic));
-    }
-    let clash = or_memory(names_clash(alloc, &unit))?;
+    let wesl_text_linked::LinkedText { text, linked } = found;
+    let LinkedUnit { unit, map, clash } = linked;
     let notes = if clash {
         modules.clash_lines(alloc, &map, wish.root, &unit)?
     } else {
         String::new(alloc)
     };
-    let text = printed(alloc, &unit)?;
     let text = if wish.has_comments {
         modules.with_comments(alloc, text, &map, wish.root, &unit)?
     } else {
         text
     };
-    Ok(LinkedText { text, clash, notes })
+    let source_map = match wish.map {
+        Some(asked) => Some(modules.source_map(
+            alloc,
+            asked,
+            text.as_str(),
+            &map,
+            wish.root,
+            &unit,
+        )?),
+        None => None,
+    };
+    Ok(LinkedText {
+        text,
+        clash,
+        notes,
+        map: source_map,
+    })
 }
 
-// The text of a unit.
-fn printed(alloc: Global, unit: &TranslationUnit) -> Result<String, ProjectFault> {
-    match print_unit(alloc, unit) {
-        Ok(text) => Ok(text),
-        Err(PrintFault::Memory) => Err(ProjectFault::Memory),
-        Err(PrintFault::NoName) => Err(ProjectFault::Project(String::from_str(
+// What is told of a link without a text.
+fn told_refusal<R>(
+    alloc: Global,
+    modules: &ProjectModules<'_, R>,
+    refusal: TextRefusal,
+) -> ProjectFault {
+    match refusal {
+        TextRefusal::Link(diagnostic) => modules.told(alloc, &diagnostic),
+        TextRefusal::Text(fault) => match print_fault(alloc, fault) {
+            Ok(told) => told,
+            Err(_) => ProjectFault::Memory,
+        },
+    }
+}
+
+// What is told of a unit without a text.
+fn print_fault(alloc: Global, fault: PrintFault) -> Result<ProjectFault, AllocError> {
+    match fault {
+        PrintFault::Memory => Ok(ProjectFault::Memory),
+        PrintFault::NoName => Ok(ProjectFault::Project(String::from_str(
             alloc,
             "a name of the linked unit is no identifier, so that no text says it; take --mangler escape",
         )?)),
-        Err(fault) => Err(ProjectFault::Project(format!(in alloc; "{fault}")?)),
+        fault => Ok(ProjectFault::Project(format!(in alloc; "{fault}")?)),
     }
 }

@@ -9,7 +9,10 @@ use wesl_cond_alive::flags_of_unit;
 use wesl_cond_features::Features;
 use wesl_resolve_base::{Resolver, copied, not_found, refused};
 use wesl_text::{TextFault, read_unit};
-use wesl_text_project::{Layout, LineStarts, ModuleFile, module_file};
+use wesl_text_homes::Libraries;
+use wesl_text_homes_rewrite::redirect;
+use wesl_text_lines::LineStarts;
+use wesl_text_project::{Layout, ModuleFile, module_file};
 use wesl_tree::{Diagnostic, Error, ModulePath, ResolveError, Span, TranslationUnit};
 
 /// A module that was read.
@@ -27,11 +30,12 @@ pub struct ReadModule {
     pub declared: Vec<(Span, String)>,
 }
 
-/// The modules of a project, as its features leave them. Each is read when it is asked for, and what was read is kept, so that faults
-/// and comments can tell lines of it.
+/// The modules of a project, as its features leave them, at the homes of their libraries. Each is read when it is asked for, and what
+/// was read is kept, so that faults and comments can tell lines of it.
 pub struct ProjectModules<'r, R> {
     pub(crate) rt: &'r R,
     pub(crate) layout: &'r Layout,
+    pub(crate) libraries: &'r Libraries,
     pub(crate) features: Option<&'r Features>,
     pub(crate) read: IndexMap<ModulePath, ReadModule>,
     // The flags that are asked for, and whether a module that was read has them.
@@ -43,6 +47,7 @@ impl<'r, R> Drop for ProjectModules<'r, R> {
         let ProjectModules {
             rt: _,
             layout: _,
+            libraries: _,
             features: _,
             read: _,
             flags: _,
@@ -51,11 +56,12 @@ impl<'r, R> Drop for ProjectModules<'r, R> {
 }
 
 impl<'r, R: Files + AllocGlobal> ProjectModules<'r, R> {
-    /// Those of a layout, under features; without features no condition is judged. The flags are asked for in the modules that are
-    /// read.
+    /// Those of a layout with these libraries, under features; without features no condition is judged. The flags are asked for in the
+    /// modules that are read.
     pub fn new(
         rt: &'r R,
         layout: &'r Layout,
+        libraries: &'r Libraries,
         features: Option<&'r Features>,
         flags: &[&str],
     ) -> Result<ProjectModules<'r, R>, AllocError> {
@@ -67,6 +73,7 @@ impl<'r, R: Files + AllocGlobal> ProjectModules<'r, R> {
         Ok(ProjectModules {
             rt,
             layout,
+            libraries,
             features,
             read: IndexMap::new(alloc),
             flags: asked,
@@ -151,7 +158,7 @@ impl<'r, R: Files + AllocGlobal> ProjectModules<'r, R> {
         Ok(())
     }
 
-    // The unit of a file, as the features leave it.
+    // The unit of a file, as the features leave it, with paths to the homes of libraries.
     fn unit_of_file(
         &mut self,
         alloc: Global,
@@ -167,7 +174,7 @@ impl<'r, R: Files + AllocGlobal> ProjectModules<'r, R> {
             return Err(ResolveError::Memory);
         }
         match condition(alloc, unit, self.features) {
-            Ok(left) => Ok(left),
+            Ok(left) => Ok(redirect(alloc, left, path, self.libraries)?),
             Err(fault) => Err(refused(alloc, fault, path, None, None)),
         }
     }
@@ -186,7 +193,7 @@ fn declared_in(alloc: Global, unit: &TranslationUnit) -> Result<Vec<(Span, Strin
 }
 
 // A copy of a path, none for want of memory.
-pub(crate) fn copy_of(alloc: Global, path: &ModulePath) -> Option<ModulePath> {
+fn copy_of(alloc: Global, path: &ModulePath) -> Option<ModulePath> {
     wesl_text_project::or_memory(path.try_clone(alloc)).ok()
 }
 
@@ -204,8 +211,8 @@ fn text_of_bytes(alloc: Global, bytes: &[u8]) -> Result<(String, bool), AllocErr
     }
 }
 
-// The unit that a module says.
-fn unit_of_module(
+/// The unit that a module says.
+pub(crate) fn unit_of_module(
     alloc: Global,
     path: &ModulePath,
     module: &ReadModule,
@@ -257,7 +264,8 @@ fn unreadable(
     }
 }
 
-/// At each path what its file says, as the features leave it. No clause knows the files, so nothing is promised of it.
+/// At each path what its file says, as the features leave it, with paths to the homes of libraries. No clause knows the files, so
+/// nothing is promised of it.
 impl<R: Files + AllocGlobal> Resolver for ProjectModules<'_, R> {
     ghost hands = { λ _ p u. Unit {0} };
 
@@ -279,7 +287,8 @@ impl<R: Files + AllocGlobal> Resolver for ProjectModules<'_, R> {
         alloc: Global,
         path: &ModulePath,
     ) -> Result<TranslationUnit, ResolveError> {
-        match module_file(self.rt, alloc, self.layout, path) {
+        let told = self.libraries.told_path(alloc, path)?;
+        match module_file(self.rt, alloc, self.layout, &told) {
             Ok(ModuleFile::File(file)) => self.unit_of_file(alloc, path, file),
             Ok(ModuleFile::Folder) => Ok(TranslationUnit::new(alloc)),
             Ok(ModuleFile::Missing(reason)) => Err(not_found(alloc, path, reason.as_str())),

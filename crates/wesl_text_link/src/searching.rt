@@ -1,10 +1,11 @@
 //! The likely places of a fault that tells none.
-use crate::asking::{Wanted, places_in};
+use crate::asking::{At, Wanted, places_in};
 use crate::modules::ReadModule;
 use crate::texts::Cause;
 use indexmap::IndexMap;
 use std::alloc::{AllocError, Global};
 use wesl_text::read_unit;
+use wesl_text_homes::Libraries;
 use wesl_tree::{ImportError, ModulePath, ResolveError, Span, ValidateError};
 
 // How many places are told.
@@ -18,50 +19,67 @@ pub(crate) struct Sighting<'m> {
     pub(crate) span: Span,
 }
 
-/// The likely places of a fault, the first few.
+/// The likely places of a fault, the first few. Its paths are those of a link.
 pub(crate) fn likely_places<'m>(
     alloc: Global,
+    libraries: &Libraries,
     read: &'m IndexMap<ModulePath, ReadModule>,
     home: Option<&ModulePath>,
     cause: Cause<'_>,
 ) -> Result<Vec<Sighting<'m>>, AllocError> {
     match cause {
         Cause::Import(ImportError::MissingDecl(path, name)) => {
-            let wanted = Wanted::Item(path, Some(name.as_str()));
-            sightings(alloc, read, wanted, Among::All)
+            askers(alloc, libraries, read, path, Some(name.as_str()))
         }
         Cause::Import(ImportError::Private(name, path)) => {
-            let wanted = Wanted::Item(path, Some(name.as_str()));
-            sightings(alloc, read, wanted, Among::All)
+            askers(alloc, libraries, read, path, Some(name.as_str()))
         }
         Cause::Refusal(ResolveError::ModuleNotFound(path, _)) => {
-            sightings(alloc, read, Wanted::Item(path, None), Among::All)
+            askers(alloc, libraries, read, path, None)
         }
         Cause::Import(ImportError::DuplicateSymbol(name)) => {
             let among = match home {
                 Some(path) => Among::One(path),
                 None => Among::Twice,
             };
-            sightings(alloc, read, Wanted::Binder(name.as_str()), among)
+            let wanted = Wanted::Binder(name.as_str());
+            sightings(alloc, libraries, read, wanted, among)
         }
         Cause::Import(ImportError::AmbiguousSymbol(name)) => {
-            sightings(alloc, read, Wanted::Binder(name.as_str()), Among::Twice)
+            let wanted = Wanted::Binder(name.as_str());
+            sightings(alloc, libraries, read, wanted, Among::Twice)
         }
         Cause::Validity(ValidateError::UndefinedSymbol(name)) => {
             let name = name.as_str();
-            sightings(alloc, read, Wanted::Name(name), Among::Without(name))
+            let wanted = Wanted::Name(name);
+            sightings(alloc, libraries, read, wanted, Among::Without(name))
         }
         _ => Ok(Vec::new(alloc)),
     }
 }
 
+// Where modules ask for an item of the module at a path of a link, or without one for any item of it.
+fn askers<'m>(
+    alloc: Global,
+    libraries: &Libraries,
+    read: &'m IndexMap<ModulePath, ReadModule>,
+    path: &ModulePath,
+    item: Option<&str>,
+) -> Result<Vec<Sighting<'m>>, AllocError> {
+    let told = libraries.told_path(alloc, path)?;
+    let home = libraries.linked_path(alloc, &told)?;
+    let wanted = Wanted::Item(&home, item);
+    sightings(alloc, libraries, read, wanted, Among::All)
+}
+
 /// Where modules have something of a name.
 pub(crate) fn binders<'m>(
     alloc: Global,
+    libraries: &Libraries,
     read: &'m IndexMap<ModulePath, ReadModule>,
     name: &str,
 ) -> Result<Vec<Sighting<'m>>, AllocError> {
-    sightings(alloc, read, Wanted::Binder(name), Among::All)
+    sightings(alloc, libraries, read, Wanted::Binder(name), Among::All)
 }
 
 // In which modules places are looked for.
@@ -79,6 +97,7 @@ enum Among<'w> {
 // The places in the modules that were read, the first few.
 fn sightings<'m>(
     alloc: Global,
+    libraries: &Libraries,
     read: &'m IndexMap<ModulePath, ReadModule>,
     wanted: Wanted<'_>,
     among: Among<'_>,
@@ -86,7 +105,7 @@ fn sightings<'m>(
     let mut found = Vec::new(alloc);
     for (path, module) in read.iter() {
         if found.len() < MOST_PLACES {
-            for span in spans_in(alloc, path, module, wanted, among)? {
+            for span in spans_in(alloc, libraries, path, module, wanted, among)? {
                 found.push(Sighting { path, module, span })?;
             }
         }
@@ -98,6 +117,7 @@ fn sightings<'m>(
 // The places in one module.
 fn spans_in(
     alloc: Global,
+    libraries: &Libraries,
     path: &ModulePath,
     module: &ReadModule,
     wanted: Wanted<'_>,
@@ -107,12 +127,17 @@ fn spans_in(
     let Ok(unit) = read_unit(alloc, module.text.as_str()) else {
         return Ok(none);
     };
-    let spans = places_in(alloc, path, &unit, wanted)?;
+    let told = libraries.told_path(alloc, path)?;
+    let at = At {
+        path: &told,
+        libraries,
+    };
+    let spans = places_in(alloc, &at, &unit, wanted)?;
     let is_asked = match among {
         Among::All => true,
         Among::One(only) => *only == *path,
         Among::Twice => spans.len() > 1,
-        Among::Without(name) => places_in(alloc, path, &unit, Wanted::Binder(name))?.is_empty(),
+        Among::Without(name) => places_in(alloc, &at, &unit, Wanted::Binder(name))?.is_empty(),
     };
     Ok(if is_asked { spans } else { none })
 }

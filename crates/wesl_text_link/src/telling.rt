@@ -4,7 +4,9 @@ use crate::places::{Found, found_in};
 use crate::searching::{Sighting, binders, likely_places};
 use crate::texts::{Cause, text_of};
 use std::alloc::{AllocError, Global};
-use wesl_text_project::{ProjectFault, line_at, place_of};
+use wesl_text_homes::Libraries;
+use wesl_text_lines::place_of;
+use wesl_text_project::{ProjectFault, line_at};
 use wesl_tree::{Diagnostic, Error, ModulePath, ResolveError, Span, ValidateError};
 
 impl<'r, R> ProjectModules<'r, R> {
@@ -26,21 +28,21 @@ impl<'r, R> ProjectModules<'r, R> {
 
     // The lines of a fault.
     fn lines_of(&self, alloc: Global, found: Found<'_>) -> Result<String, AllocError> {
-        let text = text_of(alloc, found.cause)?;
+        let text = text_of(alloc, self.libraries, found.cause)?;
         let mut lines = String::new(alloc);
         if let (Some(module), Some(span)) = (self.module_at(found.module), found.span) {
             add_place(alloc, &mut lines, "error", module, span, text.as_str())?;
             return Ok(lines);
         }
-        let places = likely_places(alloc, &self.read, found.module, found.cause)?;
+        let places = likely_places(alloc, self.libraries, &self.read, found.module, found.cause)?;
         if places.is_empty() {
             self.add_bare(&mut lines, found.module, text.as_str())?;
             return Ok(lines);
         }
         add_places(alloc, &mut lines, &places, text.as_str())?;
         if let Cause::Validity(ValidateError::UndefinedSymbol(name)) = found.cause {
-            let others = binders(alloc, &self.read, name.as_str())?;
-            add_binders(alloc, &mut lines, &others)?;
+            let others = binders(alloc, self.libraries, &self.read, name.as_str())?;
+            add_binders(alloc, self.libraries, &mut lines, &others)?;
         }
         Ok(lines)
     }
@@ -125,11 +127,12 @@ fn add_places(
 // Adds where modules have something of a name that is not imported.
 fn add_binders(
     alloc: Global,
+    libraries: &Libraries,
     lines: &mut String,
     places: &[Sighting<'_>],
 ) -> Result<(), AllocError> {
     for place in places {
-        let path = place.path;
+        let path = libraries.told_path(alloc, place.path)?;
         let text = format!(in alloc;
             "`{path}` has something of this name, which is not imported there"
         )?;

@@ -1,5 +1,6 @@
 //! What faults are told as.
 use std::alloc::{AllocError, Global};
+use wesl_text_homes::Libraries;
 use wesl_tree::{CondCompError, Error, ImportError, ModulePath, ResolveError, ValidateError};
 
 /// What a fault is, once what holds it is taken off.
@@ -12,12 +13,16 @@ pub(crate) enum Cause<'d> {
     Other(&'d Error),
 }
 
-/// What a fault is told as.
-pub(crate) fn text_of(alloc: Global, cause: Cause<'_>) -> Result<String, AllocError> {
+/// What a fault is told as. Its paths are those of a link, and are told as the project has them.
+pub(crate) fn text_of(
+    alloc: Global,
+    libraries: &Libraries,
+    cause: Cause<'_>,
+) -> Result<String, AllocError> {
     match cause {
         Cause::Condition(fault) => condition_text(alloc, fault),
-        Cause::Import(fault) => import_text(alloc, fault),
-        Cause::Refusal(fault) => refusal_text(alloc, fault),
+        Cause::Import(fault) => import_text(alloc, libraries, fault),
+        Cause::Refusal(fault) => refusal_text(alloc, libraries, fault),
         Cause::Validity(fault) => validity_text(alloc, fault),
         Cause::Other(fault) => other_text(alloc, fault),
     }
@@ -48,23 +53,30 @@ fn condition_text(alloc: Global, fault: &CondCompError) -> Result<String, AllocE
     }
 }
 
-fn import_text(alloc: Global, fault: &ImportError) -> Result<String, AllocError> {
+fn import_text(
+    alloc: Global,
+    libraries: &Libraries,
+    fault: &ImportError,
+) -> Result<String, AllocError> {
     match fault {
         ImportError::DuplicateSymbol(name) => {
             format!(in alloc; "`{name}` stands for two different things in this module")
         }
         ImportError::MissingDecl(path, name) => {
+            let path = libraries.told_path(alloc, path)?;
             format!(in alloc;
                 "the module `{path}` has nothing named `{name}`, as the features leave it"
             )
         }
         ImportError::Private(name, path) => {
+            let path = libraries.told_path(alloc, path)?;
             format!(in alloc; "the module `{path}` imports `{name}` and does not publish it")
         }
         ImportError::AmbiguousSymbol(name) => {
             format!(in alloc; "`{name}` may stand for two different things where it is used")
         }
         ImportError::TooManyFlags(path) => {
+            let path = libraries.told_path(alloc, path)?;
             format!(in alloc;
                 "`{path}` has a name with two meanings and more than 16 flags; decide some by --feature"
             )
@@ -73,10 +85,17 @@ fn import_text(alloc: Global, fault: &ImportError) -> Result<String, AllocError>
     }
 }
 
-fn refusal_text(alloc: Global, fault: &ResolveError) -> Result<String, AllocError> {
+fn refusal_text(
+    alloc: Global,
+    libraries: &Libraries,
+    fault: &ResolveError,
+) -> Result<String, AllocError> {
     match fault {
         ResolveError::FileNotFound(file, reason) => format!(in alloc; "{file}: {reason}"),
-        ResolveError::ModuleNotFound(path, reason) => missing_text(alloc, path, reason.as_str()),
+        ResolveError::ModuleNotFound(path, reason) => {
+            let path = libraries.told_path(alloc, path)?;
+            missing_text(alloc, &path, reason.as_str())
+        }
         ResolveError::Error(_) => String::from_str(alloc, "a module is refused"),
         ResolveError::Memory => String::from_str(alloc, "there was no memory"),
     }
