@@ -1,17 +1,20 @@
 -- What the lists of kept places say of a place, and of two.
-use Rattle.std.proofs.Common.{◌≡◌, ℕ, zero, suc, ◌+◌, ◌^◌, ◌<◌, nat_eq, Bool, true, false, ◌&&◌, ◌||◌, if◌then◌else◌, ◌↔◌, ◌⊎◌, IsTrue, List, [], ◌∷◌, ◌++◌, map, length, get_or, Contains, slice_get, Some, inl, inr, ◌∙◌, ap, subst, sym, refl, arith, eq-eqb, eqb-true}
+use Rattle.std.proofs.Common.{◌≡◌, ℕ, zero, suc, ◌+◌, ◌^◌, ◌<◌, nat_eq, Bool, true, false, ◌&&◌, ◌||◌, if◌then◌else◌, ◌↔◌, ◌⊎◌, IsTrue, List, [], ◌∷◌, ◌++◌, map, length, get_or, Contains, slice_get, Option, Some, None, IfSome, Bor, length-append, inl, inr, ◌∙◌, ap, subst, sym, refl, arith, eq-eqb, eqb-true}
 use Rattle.std.specs.List.{list_any}
+use Rattle.std.specs.Option.{option_copied, option_map}
+use Rattle.std.specs.Slice.{IsItemAt}
 use Rattle.std.proofs.lemmas.Bool.{cases_eq}
 use Rattle.std.proofs.lemmas.List.Folds.{list_any-append}
 use Rattle.std.proofs.lemmas.Nat.{pow_pos}
-use Rattle.std.proofs.lemmas.Option.{slice_get_read}
+use Rattle.std.proofs.lemmas.List.{length-map}
+use Rattle.std.proofs.lemmas.Option.{slice_get-map, slice_get_past, slice_get_read, slice_get_within}
 use Rattle.std.proofs.lemmas.List.Elements.{Contains-get_or}
 use Rattle.wesl_cond_choices.specs.declared.place.Place.{Place}
 use Rattle.wesl_cond_choices.specs.declared.place.Place.TheVariants.{Always, Import, Declaration, Name}
 use Rattle.wesl_cond_choices.specs.Places.{is_always, same_place, keeps, together}
 use Rattle.wesl_cond_choices.specs.Choices.{Choices, Meet, below}
 use Rattle.wesl_cond_choices.proofs.Bits.{of_both}
-use Rattle.wesl_cond_choices.specs.Alive.{PlaceSets, set_has, has_at, kept_from, kept_by, kept_lists, number_of, ShareChoice}
+use Rattle.wesl_cond_choices.specs.Alive.{PlaceSets, AreOver, AreChoicesOf, set_has, has_at, kept_from, kept_by, kept_lists, number_of, ShareChoice}
 
 is_false : (x y : ℕ) → (x ≡ y → ⊥) → nat_eq x y ≡ false
 is_false x y apart = of_test (nat_eq x y) (λ e. apart (eqb-true x y e))
@@ -193,3 +196,53 @@ module _ (s : PlaceSets) (n m : ℕ) where
 -- what is read at an index is in the list
 pub there : {X : Type 0} (xs : List X) (i : ℕ) (x : X) → i < length xs → x ≡ get_or xs i x → (slice_get xs i ≡ Some x) × Contains xs x
 there xs i x inside is = (slice_get_read xs (length xs) i x refl inside is, subst (Contains xs) (sym is) (Contains-get_or xs i x inside))
+
+-- ---- the lists by the numbers of their choices
+
+length_below : (n : ℕ) → length (below n) ≡ n
+length_below zero = refl
+length_below (suc n) = omega (arith, length-append (below n) (n ∷ []), length_below n)
+
+get_front : (xs ys : List ℕ) (k : ℕ) → k < length xs → slice_get (xs ++ ys) k ≡ slice_get xs k
+get_front [] ys k h = absurd (omega (arith, h))
+get_front (x ∷ xs) ys zero h = refl
+get_front (x ∷ xs) ys (suc k) h = get_front xs ys k (omega (arith, h))
+
+get_last : (xs : List ℕ) (x : ℕ) → slice_get (xs ++ x ∷ []) (length xs) ≡ Some x
+get_last [] x = refl
+get_last (y ∷ xs) x = get_last xs x
+
+get_below : (n k : ℕ) → k < n → slice_get (below n) k ≡ Some k
+get_below zero k h = absurd (omega arith)
+get_below (suc n) k h =
+    let long : length (below n) ≡ n = length_below n in
+    elim (cases_eq k n) [
+      | inl last ↦ ap (slice_get (below n ++ n ∷ [])) (last ∙ sym long) ∙ (get_last (below n) n ∙ ap Some (sym last))
+      | inr early ↦ let low : k < n = omega arith in get_front (below n) (n ∷ []) k (omega (arith, low, long)) ∙ get_below n k low
+    ]
+
+length_lists : (s : PlaceSets) → length (kept_lists s) ≡ 2 ^ s.flags
+length_lists s = length-map (below (2 ^ s.flags)) (kept_by s) ∙ length_below (2 ^ s.flags)
+
+pub long_of : (s : PlaceSets) (set : Option (Bor Choices)) → IfSome set (λ c. c.now.flags ≡ s.flags) → IfSome set (λ c. length (kept_lists s) ≡ 2 ^ c.now.flags)
+long_of s None h = h
+long_of s (Some c) h = length_lists s ∙ ap (λ n. 2 ^ n) (sym h)
+
+-- the choices that keep a place are those of its set
+pub choices_kept : (s : PlaceSets) (place : Place) → is_always place ≡ false → (set : Option Choices) → ((k : ℕ) → set_has k set ≡ has_at s.sets k (number_of s place))
+    → AreChoicesOf (kept_lists s) place set
+choices_kept s place apart set h k kept at =
+    let low : k < 2 ^ s.flags = omega (arith, slice_get_within (kept_lists s) k kept at, length_lists s) in
+    let here : slice_get (kept_lists s) k ≡ Some (kept_by s k) = slice_get-map (kept_by s) (below (2 ^ s.flags)) k ∙ ap (option_map (kept_by s)) (get_below (2 ^ s.flags) k low) in
+    let same : Some kept ≡ Some (kept_by s k) = sym at ∙ here in
+    let is : kept ≡ kept_by s k = cc in
+    ap (λ l. keeps l place) is ∙ (kept_apart s k place apart ∙ sym (h k))
+
+-- what is lent of sets is one of them
+pub lent : (sets : List Choices) (i : ℕ) (set : Option (Bor Choices)) → IsItemAt sets i set → option_copied set ≡ slice_get sets i
+lent sets i None h = sym (slice_get_past sets i h.3)
+lent sets i (Some x) h = sym (slice_get_read sets (length sets) i x.now refl (h.3).0 h.1)
+
+pub lent_over : (flags : ℕ) (sets : List Choices) (i : ℕ) → AreOver flags sets → (set : Option (Bor Choices)) → IsItemAt sets i set → IfSome set (λ c. c.now.flags ≡ flags)
+lent_over flags sets i over None h = tt
+lent_over flags sets i over (Some x) h = over x.now (there sets i x.now (h.3).0 h.1).1

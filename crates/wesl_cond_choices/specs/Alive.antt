@@ -3,6 +3,7 @@ use Rattle.std.specs.Prelude.{◌≡◌, ℕ, suc, ◌^◌, ◌<◌, Bool, true,
 use Rattle.wesl_cond_choices.specs.declared.place.Place.{Place}
 use Rattle.wesl_cond_choices.specs.declared.place.Place.TheVariants.{Always, Import, Declaration, Name}
 use Rattle.wesl_cond_choices.specs.Choices.{Choices, has, below}
+use Rattle.wesl_cond_choices.specs.Places.{keeps}
 
 -- sets of choices of so many flags, and of each import statement, global declaration and identifier the number of its set
 pub record PlaceSets : Type 0 where
@@ -60,3 +61,7 @@ ShareChoice s a b = (k : ℕ) × (k < 2 ^ s.flags) × (has_at s.sets k a ≡ tru
 abbrev pub lists_of : Option PlaceSets → List (List Place)
 lists_of None = []
 lists_of (Some s) = kept_lists s
+
+-- the choices that keep a place are those of the set; where there is none, no choice does
+abbrev pub AreChoicesOf : List (List Place) → Place → Option Choices → Type 0
+AreChoicesOf alive place set = (k : ℕ) (kept : List Place) → slice_get alive k ≡ Some kept → keeps kept place ≡ set_has k set

@@ -1,6 +1,6 @@
 //! Which places of a module some choice of flags keeps together.
-ghost use Rattle.std.specs.Prelude.{◌≡◌, ◌↔◌, [], IsTrue, Some};
-ghost use Rattle.wesl_cond_choices.specs.Alive.{AreOver, ShareChoice, kept_lists, number_of, place_sets};
+ghost use Rattle.std.specs.Prelude.{◌≡◌, ◌↔◌, ◌^◌, ℕ, [], true, false, length, option_copied, IfSome, IsTrue, None, Some};
+ghost use Rattle.wesl_cond_choices.specs.Alive.{AreOver, ShareChoice, AreChoicesOf, has_at, kept_lists, number_of, place_sets, set_has};
 ghost use Rattle.wesl_cond_choices.specs.Places as places;
 ghost use Rattle.wesl_cond_choices.specs.Places.{together};
 
@@ -61,6 +61,18 @@ impl PlaceSets {
             Place::Import(index) => self.imports.get(index).copied(),
             Place::Declaration(index) => self.declarations.get(index).copied(),
             Place::Name(index) => self.names.get(index).copied(),
+        }
+    }
+
+    /// The set of a place.
+    fn choices_of(&self, place: Place) -> Option<&Choices>
+        ensures over { IfSome result (λ c. c.now.flags ≡ self.now.flags) }
+        ensures kept { (k : ℕ) → set_has k (option_copied result) ≡ has_at self.now.sets k (number_of self.now place) }
+        ensures always { places.is_always place ≡ true → option_copied result ≡ None }
+    {
+        match self.number_of(place) {
+            None => None,
+            Some(number) => self.sets.get(number),
         }
     }
 
@@ -167,6 +179,18 @@ impl Alive {
         match &self.places {
             None => false,
             Some(sets) => sets.together(first, second),
+        }
+    }
+
+    /// The choices that keep a place, where it is there: the module itself, at `Always`, is kept by every choice, and has no set.
+    pub fn choices_of(&self, place: Place) -> Option<&Choices>
+        ensures over { IfSome result (λ c. length self.now ≡ 2 ^ c.now.flags) }
+        ensures kept { places.is_always place ≡ false → AreChoicesOf self.now place (option_copied result) }
+        ensures always { places.is_always place ≡ true → option_copied result ≡ None }
+    {
+        match &self.places {
+            None => None,
+            Some(sets) => sets.choices_of(place),
         }
     }
 }

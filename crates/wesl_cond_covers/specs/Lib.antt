@@ -1,0 +1,3 @@
+pub mod Unseen
+pub mod LevelView
+pub mod CoversView
