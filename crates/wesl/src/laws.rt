@@ -5,4 +5,4 @@ pub use wesl_cond::laws::{
     law_of_spelling, law_of_stages, law_of_then, law_of_twice,
 };
 pub use wesl_json::laws::{law_of_order, law_of_places, law_of_units, law_of_whole_values};
-pub use wesl_scope::laws::law_of_stripping;
+pub use wesl_scope::laws::{law_of_spans, law_of_stripping};

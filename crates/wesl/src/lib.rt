@@ -60,6 +60,7 @@ pub use wesl_scope::Reading;
 pub use wesl_scope::SyntaxUtil;
 pub use wesl_scope::clashes;
 pub use wesl_scope::free_names;
+pub use wesl_scope::identifier_spans;
 pub use wesl_scope::names_clash;
 pub use wesl_scope::strip_except;
 pub use wesl_source_map::Asked;

@@ -9,4 +9,3 @@ pub mod Unsplit
 pub mod Once
 pub mod Asked
 pub mod Anywhere
-pub mod Passing

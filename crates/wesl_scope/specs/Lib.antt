@@ -4,6 +4,8 @@ pub use Rattle.wesl_scope_open.specs.Scopes
 pub use Rattle.wesl_scope_clash.specs.Faithful
 pub use Rattle.wesl_scope_clash.specs.Nodes
 pub use Rattle.wesl_scope_clashes.specs.Clashes
+pub use Rattle.wesl_scope_spans.specs.Spans
+pub use Rattle.wesl_scope_spans.specs.Extents
 pub use Rattle.wesl_validate_builtins.specs.Builtins
 pub use Rattle.wesl_validate_rules.specs.Valid
 pub use Rattle.wesl_validate_rules.specs.Faults

@@ -3,7 +3,7 @@
 use wesl_tree::Ident;
 
 /// A binder of a module.
-#[derive(Clone, Copy)]
+#[derive(Clone, Copy, Debug, PartialEq, Eq)]
 pub struct Binder {
     /// its number
     pub ident: Ident,
@@ -12,7 +12,7 @@ pub struct Binder {
 }
 
 /// How a printed name reads where it reads otherwise than its number says.
-#[derive(Clone, Copy)]
+#[derive(Clone, Copy, Debug, PartialEq, Eq)]
 pub enum Reading {
     /// A reference without a path: its name picks this binder, which has another number.
     Captured(Binder),
@@ -23,7 +23,7 @@ pub enum Reading {
 }
 
 /// An identifier of a module at which its printed name reads otherwise than its number says.
-#[derive(Clone, Copy)]
+#[derive(Clone, Copy, Debug, PartialEq, Eq)]
 pub struct Clash<'a> {
     /// its place among the module's identifiers, in document order
     pub place: usize,
