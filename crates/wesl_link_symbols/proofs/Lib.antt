@@ -4,3 +4,5 @@ pub mod Indexing
 pub mod Once
 pub mod Whole
 pub mod Answering
+pub mod Runs
+pub mod Seeking

@@ -5,3 +5,6 @@ pub mod Laws
 pub mod Index
 pub mod Indexed
 pub mod Searching
+pub mod Row
+pub mod RowView
+pub mod Kept

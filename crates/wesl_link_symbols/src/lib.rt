@@ -5,5 +5,6 @@ pub mod answer;
 pub mod ids;
 pub mod keyed;
 pub mod laws;
+pub mod row;
 pub mod symbols;
 pub mod table;

@@ -1,11 +1,14 @@
 //! The symbol table of a module: its imports, its declarations, what some choice of flags keeps together, and indexes by name.
-ghost use Rattle.std.specs.Prelude.{◌≡◌, ◌↔◌, ◌<◌, [], length, IsTrue, IfOk, OnOk};
+ghost use Rattle.std.specs.Prelude.{◌≡◌, ◌↔◌, ◌++◌, ◌<◌, ◌≤◌, [], flat_map, length, IsTrue, IfOk, IfSome, OnOk};
 ghost use Rattle.wesl_link_symbols.specs.Index.{HasAt, IsLast, IsNamed, Binds, Chains, bound_of, name_of};
 ghost use Rattle.wesl_link_symbols.specs.Indexed.{IsBlank, AreIndexes};
 ghost use Rattle.wesl_link_symbols.specs.Names.{Declares, Sees};
+ghost use Rattle.wesl_link_symbols.specs.Row.{Passes};
+ghost use Rattle.wesl_link_symbols.specs.RowView.{own_imports, AreRows, IsCovered, IsUnseen};
 
 use crate::ids::{NameId, PathId};
 use crate::keyed;
+use crate::row::{Row, Rows};
 use crate::symbols::{Import, Reference};
 use std::alloc::{AllocError, Global};
 use std::collections::HashMap;
@@ -106,6 +109,8 @@ pub struct Table {
     // The same of imports, by the name that they bind.
     latest_import: HashMap<NameId, usize>,
     earlier_import: Vec<Option<usize>>,
+    // Its declarations and its imports in rows, where some choice of flags is known.
+    rows: Option<Rows>,
 }
 
 impl Drop for Table {
@@ -120,13 +125,14 @@ impl Drop for Table {
             earlier: _,
             latest_import: _,
             earlier_import: _,
+            rows: _,
         } = self;
     }
 }
 
 impl Model for Table {
     ghost use Rattle.wesl_link_symbols.specs.Tables as tables;
-    ghost use Rattle.wesl_link_symbols.specs.Index.{IsIndexed};
+    ghost use Rattle.wesl_link_symbols.specs.Kept.{IsKept};
     ghost use Rattle.wesl_link_symbols.specs.declared.ids.PathId.{PathId};
     ghost use Rattle.wesl_tree_base.specs.declared.ids.NameId.{NameId};
 
@@ -134,7 +140,7 @@ impl Model for Table {
 
     ghost view = { λ t. record { path = t.path; imports = t.imports.items; declarations = t.declarations.items; alive = t.alive; is_crowded = t.is_crowded } };
 
-    ghost invariant = { λ t. IsIndexed t.imports.items t.declarations.items t.latest.entries t.earlier.items t.latest_import.entries t.earlier_import.items };
+    ghost invariant = { λ t. IsKept t.alive t.path t.imports.items t.declarations.items t.latest.entries t.earlier.items t.latest_import.entries t.earlier_import.items t.rows };
 }
 
 /// Ties each declaration to the one of its name before it.
@@ -223,6 +229,83 @@ impl Indexed {
     }
 }
 
+/// Whether some choice of flags is known.
+fn is_any(alive: &Alive) -> bool {
+    alive.together(Place::Always, Place::Always)
+}
+
+/// Adds a declaration as an import of the name that it binds, if it binds one.
+fn add_own(
+    found: &mut Vec<Import<PathId, NameId>>,
+    path: PathId,
+    declaration: &Declaration,
+) -> Result<(), AllocError>
+    ensures { OnOk result (found.new.items ≡ found.old.items ++ own_imports path declaration.now) }
+{
+    let Some(name) = declaration.name() else {
+        return Ok(());
+    };
+    found.push(Import {
+        bound: name,
+        path,
+        item: name,
+        published: true,
+        place: declaration.place(),
+        from: Place::Always,
+        order: 0,
+    })?;
+    Ok(())
+}
+
+/// Adds the declarations as imports of the names that they bind.
+fn add_declared(
+    found: &mut Vec<Import<PathId, NameId>>,
+    path: PathId,
+    declarations: &[Declaration],
+) -> Result<(), AllocError>
+    requires { found.old.items ≡ [] }
+    ensures { OnOk result (found.new.items ≡ flat_map (own_imports path) declarations.now) }
+{
+    for declaration in declarations {
+        add_own(found, path, declaration)?;
+    }
+    Ok(())
+}
+
+/// The rows of a module.
+fn rows_in(
+    alloc: Global,
+    path: PathId,
+    alive: &Alive,
+    imports: &[Import<PathId, NameId>],
+    declarations: &[Declaration],
+) -> Result<Rows, AllocError>
+    ensures { IfOk result (λ r. AreRows alive.now path imports.now declarations.now r) }
+{
+    let mut declared = Vec::new(alloc);
+    add_declared(&mut declared, path, declarations)?;
+    Rows::of(alloc, alive, &declared, imports)
+}
+
+/// The rows of a module, where some choice of flags is known: else each name of it has one target, and they are not needed.
+fn rows_of(
+    alloc: Global,
+    path: PathId,
+    alive: &Alive,
+    imports: &[Import<PathId, NameId>],
+    declarations: &[Declaration],
+) -> Result<Option<Rows>, AllocError>
+    ensures { IfOk result (λ o. IfSome o (λ r. AreRows alive.now path imports.now declarations.now r)) }
+{
+    if !is_any(alive) {
+        return Ok(None);
+    }
+    match rows_in(alloc, path, alive, imports, declarations) {
+        Ok(rows) => Ok(Some(rows)),
+        Err(refused) => Err(refused),
+    }
+}
+
 impl Table {
     /// The table of the module at a path, with its imports and its declarations in document order.
     ///
@@ -238,6 +321,7 @@ impl Table {
     ) -> Result<Table, AllocError>
         ensures { IfOk result (λ t. t ≡ record { path = path; imports = imports.items; declarations = declarations.items; alive = alive; is_crowded = is_crowded }) }
     {
+        let rows = rows_of(alloc, path, &alive, &imports, &declarations)?;
         let indexed = Indexed::of(alloc, &imports, &declarations)?;
         Ok(Table {
             path,
@@ -249,6 +333,7 @@ impl Table {
             earlier: indexed.earlier,
             latest_import: indexed.latest_import,
             earlier_import: indexed.earlier_import,
+            rows,
         })
     }
 
@@ -285,6 +370,22 @@ impl Table {
         ensures { IsTrue result ↔ Sees self.now from place }
     {
         place == Place::Always || self.alive.together(from, place)
+    }
+
+    /// Its declarations and its imports in rows, where some choice of flags is known.
+    pub(crate) fn rows(&self) -> Option<&Rows>
+        ensures { IfSome result (λ r. AreRows self.now.alive self.now.path self.now.imports self.now.declarations r.now) }
+    {
+        self.rows.as_ref()
+    }
+
+    /// The index in a row of the first import, from one index on, that is not passed: none of those before it is seen.
+    pub(crate) fn next_in(&self, row: &Row, from: Place, index: usize) -> usize
+        requires { IsCovered self.now.alive row.now }
+        ensures ahead { index ≤ result }
+        ensures unseen { Passes (IsUnseen self.now.alive from) row.now.imports.items index result }
+    {
+        row.next(&self.alive, from, index)
     }
 
     /// The index of the last declaration of that name.

@@ -2,7 +2,7 @@ use Rattle.std.proofs.Common.{refl}
 use Rattle.wesl_link_symbols.specs.Index.{Binds}
 use Rattle.wesl_link_symbols.specs.Searching.{IsPassed}
 use Rattle.wesl_link_symbols.proofs.Indexing.{over_start, over_index, over_found, over_next, over_all}
-use Rattle.wesl_link_symbols.proofs.table.Table.has.Goals as goal
+use Rattle.wesl_link_symbols.proofs.table.Table.has_among_all.Goals as goal
 
 pub imports-init : goal.imports-init
 imports-init c = over_start (Binds c.args.look_up.name) (λ i. IsPassed c.args.self.now c.args.look_up c.args.sought i) c.args.self.now.imports c.latest_import_of-at.result c.latest_import_of-at.ensures

@@ -1,6 +1,6 @@
 use Rattle.std.proofs.Common.{refl}
 use Rattle.wesl_link_symbols.proofs.Answering.{lowest_start, lowest_next, lowest_asked, lowest_none}
-use Rattle.wesl_link_symbols.proofs.table.Table.asked.Goals as goal
+use Rattle.wesl_link_symbols.proofs.table.Table.asked_among_all.Goals as goal
 
 pub imports-init : goal.imports-init
 imports-init c = lowest_start c.args.self.now c.args.look_up _ _ refl c.latest_import_of-at.ensures

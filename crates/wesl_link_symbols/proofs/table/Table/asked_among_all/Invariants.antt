@@ -1,6 +1,6 @@
 use Rattle.wesl_link_symbols.proofs.Answering.{IsLowest}
 use Rattle.wesl_link_symbols.proofs.Indexing.{steps}
-use Rattle.wesl_link_symbols.proofs.table.Table.asked.Given as goal
+use Rattle.wesl_link_symbols.proofs.table.Table.asked_among_all.Given as goal
 
 abbrev pub invariant-imports : goal.invariant-imports
 invariant-imports l = IsLowest l.self l.look_up l.at l.lowest

@@ -3,7 +3,7 @@ use Rattle.std.proofs.lemmas.Bool.{false≢true}
 use Rattle.wesl_link_symbols.specs.Index.{IsNamed}
 use Rattle.wesl_link_symbols.specs.Names.{Sees}
 use Rattle.wesl_link_symbols.proofs.Indexing.{over_start, over_read, over_found, over_next, over_all}
-use Rattle.wesl_link_symbols.proofs.table.Table.declares_to.Goals as goal
+use Rattle.wesl_link_symbols.proofs.table.Table.declares_among_all.Goals as goal
 
 pub declarations-init : goal.declarations-init
 declarations-init c = over_start (IsNamed (Some c.args.look_up.name)) (λ d. Sees c.args.self.now c.args.look_up.from d.place → ⊥) c.args.self.now.declarations c.latest_of-at.result c.latest_of-at.ensures
