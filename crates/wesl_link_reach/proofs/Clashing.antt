@@ -10,7 +10,11 @@ use Rattle.wesl_link_symbols.specs.Names.{Imports, SameTarget, IsOwn}
 use Rattle.wesl_link_symbols.proofs.Lists.{one_at}
 use Rattle.wesl_link_reach.proofs.Lists.{order}
 use Rattle.wesl_link_reach.specs.Faults.{Clashes, Meet}
-use Rattle.wesl_link_reach.specs.Clashing.{IsAlone, IsLikeLast, MeetsDeclaration, MeetsNoOther, MeetsOther}
+use Rattle.wesl_link_reach.specs.Clashing.{IsAlone, IsLikeLast, MeetsDeclaration, MeetsNoDeclaration, MeetsNoOther, MeetsOther}
+use Rattle.wesl_cond_choices.specs.declared.place.Place.TheVariants.{Always}
+use Rattle.wesl_tree_base.specs.declared.ids.NameId.{NameId}
+use Rattle.wesl_link_symbols.specs.declared.ids.PathId.{PathId}
+use Rattle.wesl_link_symbols.specs.Searching.{SeesDeclaration, SeesNoOther, SeesOther}
 
 and_back : (a b : Bool) → (a && b) ≡ (b && a)
 and_back true true = refl
@@ -70,3 +74,18 @@ module _ {P N : Type 0} (t : Table P N) where
 
   pub clash_imported : (i : Import P N) → Contains t.imports i → MeetsOther t i → Clashes t i.bound
   clash_imported i held (j, imports, (meet, differ)) = inl (i, j, (held, refl), imports, meet, differ)
+
+-- ---- by what is seen from where an import stands
+
+pub other_met : (t : Table PathId NameId) (i : Import PathId NameId) → SeesOther t i → MeetsOther t i
+other_met t i (j, held, sees, differ) = (j, held, (inr sees, differ))
+
+pub none_met : (t : Table PathId NameId) (i : Import PathId NameId) → (i.place ≡ Always → ⊥) → SeesNoOther t i → MeetsNoOther t i
+none_met t i apart none j held (inl always) = absurd (apart always)
+none_met t i apart none j held (inr sees) = none j held sees
+
+pub declared_met : (t : Table PathId NameId) (i : Import PathId NameId) → SeesDeclaration t i.bound i.place → MeetsDeclaration t i
+declared_met t i (d, held, named, sees) = (d, held, named, meet_back t i.place d.place (inr sees))
+
+pub undeclared_met : (t : Table PathId NameId) (i : Import PathId NameId) → (i.place ≡ Always → ⊥) → (SeesDeclaration t i.bound i.place → ⊥) → MeetsNoDeclaration t i
+undeclared_met t i apart none d held named meet = elim (meet_back t d.place i.place meet) [ inl always ↦ apart always | inr sees ↦ none (d, held, named, sees) ]

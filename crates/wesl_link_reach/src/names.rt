@@ -1,5 +1,6 @@
 //! What a name means inside one module.
 ghost use Rattle.std.specs.Prelude.{◌≡◌, ◌⊎◌, ◌↔◌, Some, IsTrue, IsFalse, IfSome, IfNone, IfOk, OnOk, Contains};
+ghost use Rattle.wesl_cond_choices.specs.declared.place.Place.TheVariants.{Always};
 ghost use Rattle.wesl_link_symbols.specs.declared.ids.PathId.{PathId};
 ghost use Rattle.wesl_tree_base.specs.declared.ids.NameId.{NameId};
 ghost use Rattle.wesl_link_symbols.specs.declared.symbols.LookUp.{LookUp};
@@ -22,8 +23,17 @@ fn meet(table: &Table, first: Place, second: Place) -> bool
     first == Place::Always || table.sees(first, second)
 }
 
-/// Whether a declaration of the import's name is there at once with it.
-fn meets_declaration(table: &Table, import: &Import<PathId, NameId>) -> bool
+/// Whether an import is there for each choice of flags.
+fn stands_always(import: &Import<PathId, NameId>) -> bool
+    ensures yes { IsTrue result → import.now.place ≡ Always }
+    ensures no { IsFalse result → import.now.place ≡ Always → ⊥ }
+{
+    import.place == Place::Always
+}
+
+/// Whether a declaration of the import's name is there at once with it. All of them are gone over, as may be where the import is
+/// there always: then the first is there at once with it.
+fn meets_any_declaration(table: &Table, import: &Import<PathId, NameId>) -> bool
     ensures yes { IsTrue result → MeetsDeclaration table.now import.now }
     ensures no { IsFalse result → MeetsNoDeclaration table.now import.now }
 {
@@ -37,6 +47,17 @@ fn meets_declaration(table: &Table, import: &Import<PathId, NameId>) -> bool
     false
 }
 
+/// Whether a declaration of the import's name is there at once with it.
+fn meets_declaration(table: &Table, import: &Import<PathId, NameId>) -> bool
+    ensures yes { IsTrue result → MeetsDeclaration table.now import.now }
+    ensures no { IsFalse result → MeetsNoDeclaration table.now import.now }
+{
+    if stands_always(import) {
+        return meets_any_declaration(table, import);
+    }
+    table.sees_declaration(import.bound, import.place)
+}
+
 /// Whether two imports are there at once and have different targets.
 fn are_apart(table: &Table, first: &Import<PathId, NameId>, second: &Import<PathId, NameId>) -> bool
     ensures yes { IsTrue result → AreApart table.now first.now second.now }
@@ -45,8 +66,9 @@ fn are_apart(table: &Table, first: &Import<PathId, NameId>, second: &Import<Path
     meet(table, first.place, second.place) && !same_target(first, second)
 }
 
-/// Whether an import of the same name that is there at once has another target.
-fn meets_import(table: &Table, import: &Import<PathId, NameId>) -> bool
+/// Whether an import of the same name that is there at once has another target. All of them are gone over, as may be where this
+/// one is there always: then the first of another target is there at once with it.
+fn meets_any_import(table: &Table, import: &Import<PathId, NameId>) -> bool
     ensures yes { IsTrue result → MeetsOther table.now import.now }
     ensures no { IsFalse result → MeetsNoOther table.now import.now }
 {
@@ -58,6 +80,17 @@ fn meets_import(table: &Table, import: &Import<PathId, NameId>) -> bool
         at = table.earlier_import_of(index, import.bound);
     }
     false
+}
+
+/// Whether an import of the same name that is there at once has another target.
+fn meets_import(table: &Table, import: &Import<PathId, NameId>) -> bool
+    ensures yes { IsTrue result → MeetsOther table.now import.now }
+    ensures no { IsFalse result → MeetsNoOther table.now import.now }
+{
+    if stands_always(import) {
+        return meets_any_import(table, import);
+    }
+    table.sees_other(import)
 }
 
 /// Whether the last import of the name has the target of this one.
