@@ -51,7 +51,7 @@ impl Scope {
     pub fn new(alloc: Global, sight: Sight, alive: Alive) -> Result<Scope, AllocError>
         ensures { IfOk result (λ s. scope_view s ≡ record { own = (sight_view sight).own; binders = (sight_view sight).binders; alive = alive }) }
     {
-        let sight = sight.with_alive(alive);
+        let sight = sight.with_alive(alloc, alive)?;
         let mut aims = Vec::new(alloc);
         sight.add_all_aims(alloc, &mut aims)?;
         let answers = Vec::new(alloc);
@@ -148,9 +148,11 @@ impl Scope {
         let group = self.sight.group(name);
         let aims = self.aims(name);
         let is_split = self.sight.is_split(name);
-        for i in 0..group.len() {
+        let mut i = self.sight.next(name, from, 0);
+        'binders: while i < group.len() {
             let is_seen = self.sight.sees(from, placed(is_split, group[i].stands));
             keep_aim(found, &aims[i], is_seen)?;
+            i = self.sight.next(name, from, i + 1);
         }
         Ok(())
     }
