@@ -176,6 +176,7 @@ fn cure_word(cure: Cure) -> &'static str {
     match cure {
         Cure::MangleRoot => "mangle_root",
         Cure::AnotherMangler => "mangler",
+        Cure::ManglerAndRoot => "mangler_and_root",
         Cure::AnotherName => "name",
     }
 }
@@ -245,6 +246,8 @@ fn write_import(
 ) -> Result<(), AllocError> {
     out.begin_object()?;
     write_text(out, "bound", told.name(import.bound))?;
+    out.key("by_unheld")?;
+    out.token(Token::Bool(import.is_used_unheld))?;
     write_text(out, "module", told.path(import.path))?;
     out.key("target")?;
     write_symbol(out, told, import.from, import.item)?;

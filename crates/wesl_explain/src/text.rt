@@ -194,9 +194,11 @@ fn push_read(out: &mut String, told: &Explanation, read: Read) -> Result<(), All
 pub fn cure_text(cure: Cure) -> &'static str {
     match cure {
         Cure::MangleRoot =>
-            "set `mangle_root` to `true` in the bundle, so that the root's names get a form of their own",
+            "set `mangle_root` to `true` in the bundle, so that the root's names, entry points too, get a form of their own",
         Cure::AnotherMangler =>
             "set `mangler` to `escape` or `unicode` in the bundle in place of `none`",
+        Cure::ManglerAndRoot =>
+            "set `mangler` to `escape` or `unicode` and `mangle_root` to `true` in the bundle; entry points get other names too",
         Cure::AnotherName => "give one of the two another name",
     }
 }
@@ -249,21 +251,33 @@ fn push_free(out: &mut String, told: &Explanation, free: &[FreeName]) -> Result<
     Ok(())
 }
 
+/// Writes an import that nothing held uses.
+fn push_import(
+    out: &mut String,
+    told: &Explanation,
+    import: &UnusedImport,
+) -> Result<(), AllocError> {
+    out.push_str("  ")?;
+    out.push_str(told.path(import.path))?;
+    out.push_str(" imports ")?;
+    push_symbol(out, told, import.from, import.item)?;
+    if import.bound != import.item {
+        out.push_str(" as ")?;
+        out.push_str(told.name(import.bound))?;
+    }
+    if import.is_used_unheld {
+        out.push_str(", which only declarations use that are not held")?;
+    }
+    out.push_str("\n")
+}
+
 fn push_unused(
     out: &mut String,
     told: &Explanation,
     unused: &[UnusedImport],
 ) -> Result<(), AllocError> {
     for import in unused {
-        out.push_str("  ")?;
-        out.push_str(told.path(import.path))?;
-        out.push_str(" imports ")?;
-        push_symbol(out, told, import.from, import.item)?;
-        if import.bound != import.item {
-            out.push_str(" as ")?;
-            out.push_str(told.name(import.bound))?;
-        }
-        out.push_str("\n")?;
+        push_import(out, told, import)?;
     }
     Ok(())
 }
@@ -286,7 +300,7 @@ fn push_link(
     push_clashes(out, told, &told.clashes)?;
     push_heading(out, alloc, "\nNames that stay free", told.free.len())?;
     push_free(out, told, &told.free)?;
-    push_heading(out, alloc, "\nImports that nothing uses", told.unused.len())?;
+    push_heading(out, alloc, "\nImports that nothing held uses", told.unused.len())?;
     push_unused(out, told, &told.unused)
 }
 

@@ -47,6 +47,14 @@ impl Asked {
         Ok(())
     }
 
+    /// What all declarations of a module ask for, held or not.
+    fn put_all(&mut self, table: &Table) -> Result<(), AllocError> {
+        for declaration in table.declarations() {
+            self.put_references(declaration)?;
+        }
+        Ok(())
+    }
+
     /// What the held declarations of a module ask for.
     fn put_held(&mut self, world: &World, table: &Table) -> Result<(), AllocError> {
         for declaration in table.declarations() {
@@ -120,21 +128,12 @@ fn is_way(texts: &Texts, asked: &Asked, import: &Import<PathId, NameId>) -> bool
     false
 }
 
-/// Whether an import of a module is used: its own held declarations ask for what it names, or its name is asked for in the
-/// module from elsewhere.
-fn is_used(
-    texts: &Texts,
-    all: &Asked,
-    own: &Asked,
-    table: &Table,
-    import: &Import<PathId, NameId>,
-) -> bool {
-    own.has(import.path, import.item)
-        || all.has(table.path(), import.bound)
-        || is_way(texts, own, import)
+/// Whether what declarations of its module ask for is what an import names, or stands in a module that it leads to.
+fn is_used_by(texts: &Texts, asked: &Asked, import: &Import<PathId, NameId>) -> bool {
+    asked.has(import.path, import.item) || is_way(texts, asked, import)
 }
 
-/// Adds the imports of a module that nothing uses.
+/// Adds the imports of a module that nothing uses: neither a held declaration of it, nor a look-up of their name from elsewhere.
 fn add_unused(
     alloc: Global,
     world: &World,
@@ -145,13 +144,16 @@ fn add_unused(
 ) -> Result<(), AllocError> {
     let mut own = Asked::new(alloc);
     own.put_held(world, table)?;
+    let mut whole = Asked::new(alloc);
+    whole.put_all(table)?;
     for import in table.imports() {
-        if !is_used(texts, all, &own, table, import) {
+        if !all.has(table.path(), import.bound) && !is_used_by(texts, &own, import) {
             unused.push(UnusedImport {
                 path: table.path(),
                 bound: import.bound,
                 from: import.path,
                 item: import.item,
+                is_used_unheld: is_used_by(texts, &whole, import),
             })?;
         }
     }

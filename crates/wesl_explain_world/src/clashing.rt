@@ -91,6 +91,14 @@ fn is_of_root(meaning: Meaning, homes: &[PathId], root: Option<PathId>) -> bool 
     }
 }
 
+/// Whether a held declaration is one of another module than the root.
+fn is_of_another(meaning: Meaning, homes: &[PathId], root: Option<PathId>) -> bool {
+    match meaning {
+        Meaning::Held(place) => homes.get(place).copied() != root,
+        Meaning::Local | Meaning::Outer => false,
+    }
+}
+
 fn other(read: Read) -> Meaning {
     match read {
         Read::As(meaning) | Read::Twice(meaning) => meaning,
@@ -109,11 +117,14 @@ fn cures(
 ) -> Result<Vec<Cure>, AllocError> {
     let mut cures = Vec::new(alloc);
     let is_root = is_of_root(meant, homes, root) || is_of_root(other(read), homes, root);
+    let is_another = is_of_another(meant, homes, root) || is_of_another(other(read), homes, root);
     match options.mangler {
-        Naming::Own => cures.push(Cure::AnotherMangler)?,
-        Naming::Escape | Naming::Unicode => if is_root && !options.mangle_root {
+        Naming::Own if is_another => cures.push(Cure::AnotherMangler)?,
+        Naming::Own if is_root => cures.push(Cure::ManglerAndRoot)?,
+        Naming::Escape | Naming::Unicode if is_root && !options.mangle_root => {
             cures.push(Cure::MangleRoot)?;
-        },
+        }
+        Naming::Own | Naming::Escape | Naming::Unicode => {}
     }
     cures.push(Cure::AnotherName)?;
     Ok(cures)

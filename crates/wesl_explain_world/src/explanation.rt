@@ -27,7 +27,7 @@ pub struct Explanation {
     pub clashes: Vec<NameClash>,
     /// The names that nothing declares and that are not built in.
     pub free: Vec<FreeName>,
-    /// The imports of loaded modules that nothing uses.
+    /// The imports of loaded modules that nothing held uses.
     pub unused: Vec<UnusedImport>,
     /// Why the bundle is refused: nothing where it links.
     pub faults: Vec<Fault>,
@@ -123,10 +123,12 @@ pub enum Read {
 /// What helps where a name clashes.
 #[derive(Clone, Copy)]
 pub enum Cure {
-    /// The bundle's `mangle_root`, which gives the root's names a form of their own.
+    /// The bundle's `mangle_root`, which gives the root's names, entry points too, a form of their own.
     MangleRoot,
     /// The bundle's `mangler`, `escape` or `unicode` in place of `none`.
     AnotherMangler,
+    /// Both: it is a name of the root that is read, and one of no module that is meant, or the other way round.
+    ManglerAndRoot,
     /// Another name in the source.
     AnotherName,
 }
@@ -154,7 +156,7 @@ pub struct FreeName {
     pub near: Option<(PathId, NameId)>,
 }
 
-/// An import that nothing uses.
+/// An import that nothing held uses.
 #[derive(Clone, Copy)]
 pub struct UnusedImport {
     /// the module that imports
@@ -165,6 +167,8 @@ pub struct UnusedImport {
     pub from: PathId,
     /// the name there
     pub item: NameId,
+    /// whether a declaration of the importing module uses it that is not held
+    pub is_used_unheld: bool,
 }
 
 /// A fault as its line has it.
