@@ -300,7 +300,12 @@ fn push_link(
     push_clashes(out, told, &told.clashes)?;
     push_heading(out, alloc, "\nNames that stay free", told.free.len())?;
     push_free(out, told, &told.free)?;
-    push_heading(out, alloc, "\nImports that nothing held uses", told.unused.len())?;
+    push_heading(
+        out,
+        alloc,
+        "\nImports that nothing held uses",
+        told.unused.len(),
+    )?;
     push_unused(out, told, &told.unused)
 }
 

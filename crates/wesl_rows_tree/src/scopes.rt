@@ -3,9 +3,11 @@ use serde_json::Value;
 use wesl_rows_base::{
     List, Object, Row, is_refused, names_value, numbers_value, stands, unit_of_one,
 };
-use wesl_scope::{Binder, Clash, Reading, SyntaxUtil, clashes, names_clash, strip_except};
+use wesl_scope::{
+    Binder, Clash, Reading, SyntaxUtil, clashes, identifier_spans, names_clash, strip_except,
+};
 use wesl_scope_occurrences::{Identifiers, Standing, occurrences};
-use wesl_tree::TranslationUnit;
+use wesl_tree::{Span, TranslationUnit};
 
 /// The identifiers of a unit, or none.
 fn identifiers<'a>(row: Row<'_>, unit: &'a TranslationUnit) -> Identifiers<'a> {
@@ -209,6 +211,30 @@ pub fn clashes_told(row: Row<'_>) -> Value {
     let mut answer = List::new(row.alloc);
     for clash in found.as_slice() {
         answer.put(clash_value(row, clash));
+    }
+    answer.end(row)
+}
+
+/// An identifier by its name, and the span of the innermost node round it.
+fn spanned_value(row: Row<'_>, name: &str, span: Span) -> Value {
+    let mut answer = Object::new(row.alloc);
+    answer.text("name", name);
+    answer.put(
+        "span",
+        numbers_value(row, &[span.start as usize, span.end as usize]),
+    );
+    answer.end(row)
+}
+
+/// The same of each identifier of the `tree`.
+pub fn spans_told(row: Row<'_>) -> Value {
+    let unit = row.tree();
+    let spans = row.or(identifier_spans(row.alloc, &unit), Vec::new(row.alloc));
+    let mut answer = List::new(row.alloc);
+    for occurrence in identifiers(row, &unit).all.as_slice() {
+        if let Some(span) = spans.get(occurrence.place) {
+            answer.put(spanned_value(row, unit.names().name(occurrence.ident), *span));
+        }
     }
     answer.end(row)
 }
