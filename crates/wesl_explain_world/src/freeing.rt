@@ -1,7 +1,6 @@
 //! The names that a linked unit leaves free, each with the declared name that is nearest to it.
 
 use crate::explanation::FreeName;
-use crate::wgsl_names::is_wgsl_name;
 use crate::world::World;
 use std::alloc::{AllocError, Global};
 use wesl_explain_faults::{NearNames, Texts};
@@ -9,6 +8,7 @@ use wesl_link_symbols::ids::{NameId, PathId};
 use wesl_scope::free_names;
 use wesl_tree::TranslationUnit;
 use wesl_validate_builtins::Builtins;
+use wesl_validate_wgsl::is_wgsl_name;
 
 /// The declared name of loaded modules that is nearest, if one is near.
 fn nearest(

@@ -12,7 +12,6 @@ mod holding;
 mod loading;
 mod refusing;
 mod sources;
-mod wgsl_names;
 mod world;
 
 pub use explaining::explained;

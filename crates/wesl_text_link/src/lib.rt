@@ -8,7 +8,6 @@
 #![tactic(auto)]
 
 mod asking;
-mod builtin_names;
 mod clashing;
 mod comments;
 mod linking;

@@ -1,12 +1,12 @@
 //! What is asked of the names of a linked unit.
-use crate::builtin_names::{CONSTRUCTORS, FUNCTIONS, NAMES};
 use serde_json::Value;
-use std::alloc::{AllocError, Global};
+use std::alloc::Global;
 use wesl_scope::free_names;
 use wesl_text_project::ProjectFault;
 use wesl_tree::{Diagnostic, Error, TranslationUnit, ValidateError};
 use wesl_validate::validate_wgsl;
 use wesl_validate_builtins::Builtins;
+use wesl_validate_wgsl::wgsl_builtins;
 
 /// What is asked of the names of a linked unit.
 #[derive(Clone, Copy, PartialEq, Eq)]
@@ -64,11 +64,7 @@ pub fn read_builtins(
     text: Option<&str>,
 ) -> Result<Builtins, ProjectFault> {
     let Some(text) = text else {
-        return Ok(Builtins::new(
-            copies(alloc, &NAMES)?,
-            copies(alloc, &FUNCTIONS)?,
-            copies(alloc, &CONSTRUCTORS)?,
-        ));
+        return Ok(wgsl_builtins(alloc)?);
     };
     match Value::from_str(alloc, text) {
         Ok(value) => Ok(Builtins::new(
@@ -78,15 +74,6 @@ pub fn read_builtins(
         )),
         Err(fault) => Err(ProjectFault::Project(format!(in alloc; "{file}: {fault}")?)),
     }
-}
-
-// Copies of texts.
-fn copies(alloc: Global, texts: &[&str]) -> Result<Vec<String>, AllocError> {
-    let mut copied = Vec::with_capacity(alloc, texts.len())?;
-    for text in texts.iter() {
-        copied.push(String::from_str(alloc, text)?)?;
-    }
-    Ok(copied)
 }
 
 // The texts at a key.
