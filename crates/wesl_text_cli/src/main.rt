@@ -78,7 +78,7 @@ fn tell_lines(rt: &HostRuntime, matches: &ArgMatches<'_>, lines: &str) -> io::Re
     }
 }
 
-// Writes the text, the rule and the warnings.
+// Writes the text, the rule, the map and the warnings.
 fn write(rt: &HostRuntime, matches: &ArgMatches<'_>, outcome: &Outcome) -> ExitCode {
     let text = outcome.text.as_bytes();
     let is_written = match matches.get_str("output") {
@@ -89,8 +89,12 @@ fn write(rt: &HostRuntime, matches: &ArgMatches<'_>, outcome: &Outcome) -> ExitC
         Some(file) => fs::write(rt, file, outcome.rule.as_str()).is_ok(),
         None => true,
     };
-    if !is_written || !is_noted {
-        let _ = eprintln!(rt; "wesl-text: the text or its depfile cannot be written");
+    let is_mapped = match (matches.get_str("map"), &outcome.map) {
+        (Some(file), Some(map)) => fs::write(rt, file, map.as_str()).is_ok(),
+        _ => true,
+    };
+    if !is_written || !is_noted || !is_mapped {
+        let _ = eprintln!(rt; "wesl-text: the text, its depfile or its map cannot be written");
         return ExitCode::from(1);
     }
     for warning in &outcome.warnings {

@@ -8,7 +8,9 @@ use std::fs;
 use std::path::Path;
 use std::rt::Files;
 use wesl_cond_features::Feature;
-use wesl_text_link::{LinkWish, LinkedText, ProjectModules, linked_text, read_builtins};
+use wesl_text_link::{
+    LinkWish, LinkedText, MapWish, ProjectModules, linked_text, read_builtins,
+};
 use wesl_text_project::{
     Description, Layout, ProjectFault, default_root, description_of, given_packages, layout_of,
     parsed_root, root_of_file,
@@ -26,6 +28,8 @@ pub struct Outcome {
     pub is_as_meant: bool,
     /// The rule of the files that were read.
     pub rule: String,
+    /// The source map, if one is asked for.
+    pub map: Option<String>,
 }
 
 /// Links what the words ask for.
@@ -130,6 +134,7 @@ fn linked<'m, R: Files + AllocGlobal>(
         validation: validation_of(matches),
         builtins: &builtins,
         has_comments: !matches.get_flag("no-comments"),
+        map: map_wish(matches),
     };
     let names = flag_names(alloc, &flags)?;
     let mut modules = ProjectModules::new(rt, layout, features.as_ref(), &names)?;
@@ -141,13 +146,26 @@ fn linked<'m, R: Files + AllocGlobal>(
         text,
         clash,
         notes: _,
+        map,
     } = linked;
     Ok(Outcome {
         text,
         warnings: told,
         is_as_meant: !clash,
         rule,
+        map,
     })
+}
+
+// The source map that is asked for, if one is.
+fn map_wish<'m>(matches: &'m ArgMatches<'_>) -> Option<MapWish<'m>> {
+    match matches.get_str("map") {
+        Some(map) => Some(MapWish {
+            map,
+            file: matches.get_str("output"),
+        }),
+        None => None,
+    }
 }
 
 // The names of flags.

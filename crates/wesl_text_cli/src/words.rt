@@ -158,6 +158,12 @@ fn with_outputs<'a>(alloc: Global, command: Command<'a>) -> Result<Command<'a>, 
         ))?
         .arg(option(
             alloc,
+            "map",
+            "FILE",
+            "write a source map (revision 3) there, which leads from the text to the files of the modules",
+        ))?
+        .arg(option(
+            alloc,
             "color",
             "WHEN",
             "whether faults are colored: on a terminal without NO_COLOR, or as is said",
@@ -165,13 +171,12 @@ fn with_outputs<'a>(alloc: Global, command: Command<'a>) -> Result<Command<'a>, 
         .value_parser(COLORS.as_slice()))?
         .arg(flag(alloc, "bundle", "is not there yet"))?
         .arg(flag(alloc, "explain", "is not there yet"))?
-        .arg(flag(alloc, "map", "is not there yet"))?
         .arg(flag(alloc, "progress", "is not there yet"))
 }
 
 /// The word that asks for what is not there yet, if there is one.
 pub fn not_there_yet(matches: &ArgMatches<'_>) -> Option<&'static str> {
-    for word in ["bundle", "explain", "map", "progress"] {
+    for word in ["bundle", "explain", "progress"] {
         if matches.get_flag(word) {
             return Some(word);
         }

@@ -11,6 +11,7 @@ mod asking;
 mod clashing;
 mod comments;
 mod linking;
+mod mapping;
 mod modules;
 mod naming;
 mod places;
@@ -20,6 +21,7 @@ mod texts;
 mod validity;
 
 pub use linking::{LinkWish, LinkedText, linked_text};
+pub use mapping::MapWish;
 pub use modules::{ProjectModules, ReadModule};
 pub use naming::Naming;
 pub use validity::{Validation, read_builtins};

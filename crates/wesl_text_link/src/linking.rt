@@ -3,6 +3,7 @@ ghost use Rattle.std.specs.Prelude.{◌≡◌, false};
 ghost use Rattle.wesl_tree_names.specs.Path.{path_view, is_relative};
 
 use crate::asking::name_of;
+use crate::mapping::MapWish;
 use crate::modules::{ProjectModules, copy_of};
 use crate::naming::{Naming, named};
 use crate::validity::{Validation, check};
@@ -38,6 +39,8 @@ pub struct LinkWish<'w> {
     pub builtins: &'w Builtins,
     /// Whether a comment stands before each declaration.
     pub has_comments: bool,
+    /// The source map that is asked for, if one is.
+    pub map: Option<MapWish<'w>>,
 }
 
 /// The text of a linked unit, and whether its names would be read otherwise than meant.
@@ -49,6 +52,8 @@ pub struct LinkedText {
     pub clash: bool,
     /// The lines that tell which names clash.
     pub notes: String,
+    /// Its source map, if one was asked for.
+    pub map: Option<String>,
 }
 
 /// Links the modules of a project, and prints the linked unit.
@@ -192,7 +197,16 @@ fn assembled_text<R>(
     } else {
         text
     };
-    Ok(LinkedText { text, clash, notes })
+    let source_map = match wish.map {
+        Some(asked) => Some(modules.source_map(alloc, asked, text.as_str(), &map, wish.root, &unit)?),
+        None => None,
+    };
+    Ok(LinkedText {
+        text,
+        clash,
+        notes,
+        map: source_map,
+    })
 }
 
 // The text of a unit.

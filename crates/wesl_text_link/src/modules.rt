@@ -204,8 +204,8 @@ fn text_of_bytes(alloc: Global, bytes: &[u8]) -> Result<(String, bool), AllocErr
     }
 }
 
-// The unit that a module says.
-fn unit_of_module(
+/// The unit that a module says.
+pub(crate) fn unit_of_module(
     alloc: Global,
     path: &ModulePath,
     module: &ReadModule,
