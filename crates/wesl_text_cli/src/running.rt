@@ -158,7 +158,7 @@ fn linked<'m, R: Files + AllocGlobal>(
 }
 
 // The source map that is asked for, if one is.
-fn map_wish<'m>(matches: &'m ArgMatches<'_>) -> Option<MapWish<'m>> {
+fn map_wish<'a>(matches: &ArgMatches<'a>) -> Option<MapWish<'a>> {
     match matches.get_str("map") {
         Some(map) => Some(MapWish {
             map,

@@ -4,7 +4,8 @@ use crate::modules::{ProjectModules, ReadModule, unit_of_module};
 use std::alloc::{AllocError, Global};
 use wesl_cond::condition;
 use wesl_source_map::BasicSourceMap;
-use wesl_text_map::{MapOrigin, MapSource, seen_from, source_map_of};
+use wesl_text::{TextFault, read_unit};
+use wesl_text_map::{MapOrigin, MapText, seen_from, source_map_of};
 use wesl_text_project::{ProjectFault, or_memory};
 use wesl_tree::{GlobalDeclarationNode, ModulePath, Span, TranslationUnit};
 
@@ -15,6 +16,16 @@ pub struct MapWish<'w> {
     pub map: &'w str,
     /// The file in which the text will stand, if it is one.
     pub file: Option<&'w str>,
+}
+
+// A module that was read, as the map takes it.
+#[derive(Drop)]
+struct MappedModule<'m> {
+    // its file, as it is named from the folder of the map
+    file: String,
+    text: &'m str,
+    // its unit, as the features leave it
+    unit: TranslationUnit,
 }
 
 impl<'r, R> ProjectModules<'r, R> {
@@ -28,36 +39,38 @@ impl<'r, R> ProjectModules<'r, R> {
         root: &ModulePath,
         unit: &TranslationUnit,
     ) -> Result<String, ProjectFault> {
-        let units = self.units_again(alloc)?;
-        let files = self.files_seen(alloc, wish.map)?;
-        let mut sources = Vec::with_capacity(alloc, files.len())?;
-        for ((module, unit), file) in self.read.values().zip(units.iter()).zip(files.iter()) {
-            sources.push(MapSource {
-                file: file.as_str(),
+        let modules = self.mapped_modules(alloc, wish.map)?;
+        let origins = self.origins(alloc, map, root, unit, &modules)?;
+        let sources = sources_of(alloc, &modules)?;
+        let file = seen_from(alloc, wish.map, wish.file.unwrap_or(""))?;
+        let printed = printed_unit(alloc, text)?;
+        let linked = MapText {
+            file: file.as_str(),
+            text,
+            unit: &printed,
+        };
+        Ok(source_map_of(alloc, linked, &sources, &origins)?)
+    }
+
+    // The modules that were read.
+    fn mapped_modules(
+        &self,
+        alloc: Global,
+        map: &str,
+    ) -> Result<Vec<MappedModule<'_>>, ProjectFault> {
+        let mut modules = Vec::new(alloc);
+        for (path, module) in self.read.iter() {
+            let unit = self.unit_again(alloc, path, module)?;
+            modules.push(MappedModule {
+                file: seen_from(alloc, map, module.file.as_str())?,
                 text: module.text.as_str(),
                 unit,
             })?;
         }
-        let origins = self.origins(alloc, map, root, unit, &units)?;
-        let file = match wish.file {
-            Some(file) => Some(seen_from(alloc, wish.map, file)?),
-            None => None,
-        };
-        let file = file.as_ref().map(|file| file.as_str());
-        Ok(source_map_of(alloc, file, text, &sources, &origins)?)
+        Ok(modules)
     }
 
-    // The units of the modules that were read, as the features leave them.
-    fn units_again(&self, alloc: Global) -> Result<Vec<TranslationUnit>, ProjectFault> {
-        let mut units = Vec::with_capacity(alloc, self.read.len())?;
-        for (path, module) in self.read.iter() {
-            let unit = self.unit_again(alloc, path, module)?;
-            units.push(unit)?;
-        }
-        Ok(units)
-    }
-
-    // That of one.
+    // The unit of one, as the features leave it.
     fn unit_again(
         &self,
         alloc: Global,
@@ -70,15 +83,6 @@ impl<'r, R> ProjectModules<'r, R> {
         }
     }
 
-    // Their files, as they are named from the folder of the map.
-    fn files_seen(&self, alloc: Global, map: &str) -> Result<Vec<String>, AllocError> {
-        let mut files = Vec::with_capacity(alloc, self.read.len())?;
-        for module in self.read.values() {
-            files.push(seen_from(alloc, map, module.file.as_str())?)?;
-        }
-        Ok(files)
-    }
-
     // Of each declaration of a linked unit where it comes from.
     fn origins(
         &self,
@@ -86,14 +90,14 @@ impl<'r, R> ProjectModules<'r, R> {
         map: &BasicSourceMap,
         root: &ModulePath,
         unit: &TranslationUnit,
-        units: &[TranslationUnit],
+        modules: &[MappedModule<'_>],
     ) -> Result<Vec<Option<MapOrigin>>, AllocError> {
         let mut origins = Vec::with_capacity(alloc, unit.global_declarations().len())?;
         let mut last = None;
         for node in unit.global_declarations() {
             let origin = match (&*self).module_of(&*map, &*root, &*unit, node) {
-                Some(source) => origin_in(units, source, node.span),
-                None => unnamed_origin(units, last, node.span),
+                Some(source) => origin_in(modules, source, node.span),
+                None => unnamed_origin(modules, last, node.span),
             };
             last = origin;
             origins.push(origin)?;
@@ -116,9 +120,34 @@ impl<'r, R> ProjectModules<'r, R> {
     }
 }
 
+// The unit that a linked text says.
+fn printed_unit(alloc: Global, text: &str) -> Result<TranslationUnit, AllocError> {
+    match read_unit(alloc, text) {
+        Ok(unit) => Ok(unit),
+        Err(TextFault::Memory) => Err(AllocError),
+        Err(_) => Ok(TranslationUnit::new(alloc)),
+    }
+}
+
+// The modules as sources of a map.
+fn sources_of<'m>(
+    alloc: Global,
+    modules: &'m [MappedModule<'_>],
+) -> Result<Vec<MapText<'m>>, AllocError> {
+    let mut sources = Vec::with_capacity(alloc, modules.len())?;
+    for module in modules {
+        sources.push(MapText {
+            file: module.file.as_str(),
+            text: module.text,
+            unit: &module.unit,
+        })?;
+    }
+    Ok(sources)
+}
+
 // The declaration at a place in the unit of a module.
-fn origin_in(units: &[TranslationUnit], source: usize, span: Span) -> Option<MapOrigin> {
-    let declarations = units.get(source)?.global_declarations();
+fn origin_in(modules: &[MappedModule<'_>], source: usize, span: Span) -> Option<MapOrigin> {
+    let declarations = modules.get(source)?.unit.global_declarations();
     let number = declarations.partition_point(|node| node.span.start < span.start);
     match declarations.get(number) {
         Some(node) if node.span == span => Some(MapOrigin {
@@ -132,19 +161,19 @@ fn origin_in(units: &[TranslationUnit], source: usize, span: Span) -> Option<Map
 // The same of one that declares no name, as a `const_assert`: it comes from the module of the one before it, where that has one at this
 // place behind it, and else from the first module that has.
 fn unnamed_origin(
-    units: &[TranslationUnit],
+    modules: &[MappedModule<'_>],
     last: Option<MapOrigin>,
     span: Span,
 ) -> Option<MapOrigin> {
     if let Some(last) = last {
-        if let Some(next) = origin_in(units, last.source, span) {
+        if let Some(next) = origin_in(modules, last.source, span) {
             if next.declaration > last.declaration {
                 return Some(next);
             }
         }
     }
-    for source in 0..units.len() {
-        if let Some(origin) = origin_in(units, source, span) {
+    for source in 0..modules.len() {
+        if let Some(origin) = origin_in(modules, source, span) {
             return Some(origin);
         }
     }

@@ -4,6 +4,7 @@ use wesl_text_tokens::{PlacedToken, Symbol, Token};
 use wesl_tree::Span;
 
 /// A walk over tokens that looks for identifiers, one behind the other.
+#[derive(Drop)]
 pub(crate) struct Finder<'f, 't> {
     tokens: &'f [PlacedToken<'t>],
     // the first token that is not behind the walk
@@ -37,12 +38,6 @@ impl<'f, 't> Finder<'f, 't> {
             }
         }
         None
-    }
-}
-
-impl<'f, 't> Drop for Finder<'f, 't> {
-    fn drop(self) {
-        let Finder { tokens: _, next: _ } = self;
     }
 }
 

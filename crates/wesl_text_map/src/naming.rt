@@ -1,9 +1,9 @@
 //! How a map names files.
 use std::alloc::{AllocError, Global};
 
-/// A file as it is named from the folder of another one. Where that cannot be told by their names, the file as it is.
+/// A file as it is named from the folder of another one. Where that cannot be told by their names, the file as it is; of no name, none.
 pub fn seen_from(alloc: Global, other: &str, file: &str) -> Result<String, AllocError> {
-    if other.starts_with('/') != file.starts_with('/') {
+    if file.is_empty() || other.starts_with('/') != file.starts_with('/') {
         return String::from_str(alloc, file);
     }
     let whole = parts(alloc, other)?;

@@ -1,20 +1,19 @@
 //! The source map of a linked text.
 use crate::pairs::{Pair, Pairs};
 use crate::reading::ReadText;
-use serde_json::{Value, json, put};
+use serde_json::{Value, json};
 use std::alloc::{AllocError, Global};
-use wesl_text::{TextFault, read_unit};
 use wesl_text_mappings::{Mapping, mappings_text};
 use wesl_tree::TranslationUnit;
 
-/// A module that declarations of a linked text come from.
+/// A text and what it says.
 #[derive(Clone, Copy)]
-pub struct MapSource<'s> {
-    /// Its file, as the map names it.
+pub struct MapText<'s> {
+    /// Its file, as the map names it; empty where it has none.
     pub file: &'s str,
-    /// What the file says.
+    /// The text.
     pub text: &'s str,
-    /// The unit that this says, as the features leave it.
+    /// The unit that it says; of a module, as the features leave it.
     pub unit: &'s TranslationUnit,
 }
 
@@ -29,34 +28,27 @@ pub struct MapOrigin {
 
 /// The source map of a linked text, a text of JSON. It leads from each identifier, expression, statement, attribute, member and
 /// declaration of the text whose origin is told to its place in the source, and of an identifier that has another name there it tells
-/// that name. `file` is the name of the text, and `origins` tells of each of its declarations where it comes from. Refused for want of
-/// memory alone; a text that says no unit has a map that leads nowhere.
+/// that name. `origins` tells of each declaration of the linked text where it comes from. Refused for want of memory alone.
 pub fn source_map_of(
     alloc: Global,
-    file: Option<&str>,
-    text: &str,
-    sources: &[MapSource<'_>],
+    linked: MapText<'_>,
+    sources: &[MapText<'_>],
     origins: &[Option<MapOrigin>],
 ) -> Result<String, AllocError> {
-    let unit = match read_unit(alloc, text) {
-        Ok(unit) => unit,
-        Err(TextFault::Memory) => return Err(AllocError),
-        Err(_) => TranslationUnit::new(alloc),
-    };
-    let printed = ReadText::of(alloc, text, &unit)?;
+    let printed = ReadText::of(alloc, linked.text, linked.unit)?;
     let texts = read_sources(alloc, sources)?;
     let mut pairs = pairs_of(alloc, &printed, &texts, origins)?;
     pairs.put_in_order()?;
     let mappings = mappings_of(alloc, &pairs.all, &printed, &texts)?;
     let Pairs { all: _, names } = pairs;
     let names = names.into_texts(alloc)?;
-    written(alloc, file, sources, names, &mappings)
+    written(alloc, linked.file, sources, names, &mappings)
 }
 
 // The texts of sources, and what they say.
 fn read_sources<'s>(
     alloc: Global,
-    sources: &[MapSource<'s>],
+    sources: &[MapText<'s>],
 ) -> Result<Vec<ReadText<'s>>, AllocError> {
     let mut texts = Vec::with_capacity(alloc, sources.len())?;
     for source in sources {
@@ -124,32 +116,24 @@ fn mapping_of(
 // The text of a map.
 fn written(
     alloc: Global,
-    file: Option<&str>,
-    sources: &[MapSource<'_>],
+    file: &str,
+    sources: &[MapText<'_>],
     names: Vec<String>,
     mappings: &[Mapping],
 ) -> Result<String, AllocError> {
     let files = files_of(alloc, sources)?;
     let names = values_of(alloc, names)?;
     let mappings = mappings_text(alloc, mappings)?;
-    let map = json!(in alloc; {"version": 3, "sources": files, "names": names, "mappings": mappings})?;
-    with_file(alloc, map, file)?.to_string(alloc)
-}
-
-// A map with the name of its text, where it has one.
-fn with_file(alloc: Global, map: Value, file: Option<&str>) -> Result<Value, AllocError> {
-    match (map, file) {
-        (Value::Object(mut members), Some(file)) => {
-            let name = Value::try_from_str(alloc, file)?;
-            put(&mut members, alloc, "file", name)?;
-            Ok(Value::Object(members))
-        }
-        (map, _) => Ok(map),
-    }
+    let map = if file.is_empty() {
+        json!(in alloc; {"version": 3u64, "sources": files, "names": names, "mappings": mappings})?
+    } else {
+        json!(in alloc; {"version": 3u64, "file": file, "sources": files, "names": names, "mappings": mappings})?
+    };
+    map.to_string(alloc)
 }
 
 // The names of the files of sources.
-fn files_of(alloc: Global, sources: &[MapSource<'_>]) -> Result<Value, AllocError> {
+fn files_of(alloc: Global, sources: &[MapText<'_>]) -> Result<Value, AllocError> {
     let mut files = Vec::with_capacity(alloc, sources.len())?;
     for source in sources {
         files.push(Value::try_from_str(alloc, source.file)?)?;

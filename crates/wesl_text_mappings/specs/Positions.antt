@@ -1,5 +1,5 @@
 -- Lines and columns of a text of UTF-8, counted from 0. Lines end as WGSL says ("Blankspace and Line Breaks").
-use Rattle.std.specs.Prelude.{◌≡◌, ◌≤◌, ◌+◌, ◌-◌, ◌==◌, ◌&&◌, ◌||◌, not, Bool, ℕ, zero, suc, nat_le, nat_lt, if◌then◌else◌, List, get_or, slice_get, length, Some}
+use Rattle.std.specs.Prelude.{◌+◌, ◌-◌, ◌==◌, ◌&&◌, ◌||◌, not, Bool, ℕ, zero, suc, nat_le, nat_lt, if◌then◌else◌, List, [], ◌∷◌, ◌++◌, get_or}
 use Rattle.wesl_text_mappings.specs.declared.positions.Position.{Position}
 
 -- the byte at a place, 0 where there is none
@@ -28,7 +28,11 @@ unfoldable pub column : List ℕ → ℕ → ℕ
 column t zero = 0
 column t (suc p) = if ends_line t p then 0 else column t p + units (byte t p)
 
--- of each byte, and of the end behind them, its place
-abbrev pub ArePositions : List ℕ → List Position → Type 0
-ArePositions t places =
-    (p : ℕ) → p ≤ length t → slice_get places p ≡ Some (record { line = line t p; column = column t p })
+-- where a byte stands
+abbrev pub position : List ℕ → ℕ → Position
+position t p = record { line = line t p; column = column t p }
+
+-- where the bytes up to one stand
+unfoldable pub positions : List ℕ → ℕ → List Position
+positions t zero = position t 0 ∷ []
+positions t (suc p) = positions t p ++ position t (suc p) ∷ []

@@ -1,6 +1,6 @@
 //! Lines and columns of a text, counted from 0, where columns count code units of UTF-16.
-ghost use Rattle.std.specs.Prelude.{◌≡◌, ◌+◌, ◌<◌, ◌≤◌, ℕ, length, IfOk, Some, slice_get, get_or};
-ghost use Rattle.wesl_text_mappings.specs.Positions.{ArePositions, byte, column, ends_line, line, units};
+ghost use Rattle.std.specs.Prelude.{◌≡◌, ◌+◌, ◌<◌, length, IfOk};
+ghost use Rattle.wesl_text_mappings.specs.Positions.{byte, ends_line, position, positions, units};
 
 use std::alloc::{AllocError, Global};
 
@@ -53,10 +53,8 @@ fn units(byte: u8) -> usize
 /// The place behind a byte.
 fn behind(place: Position, bytes: &[u8], at: usize) -> Position
     requires within { at < length bytes.now }
-    requires line { place.line ≡ line bytes.now at }
-    requires column { place.column ≡ column bytes.now at }
-    ensures line { result.line ≡ line bytes.now (at + 1) }
-    ensures column { result.column ≡ column bytes.now (at + 1) }
+    requires place { place ≡ position bytes.now at }
+    ensures { result ≡ position bytes.now (at + 1) }
 {
     if ends_line(bytes, at) {
         return Position {
@@ -72,8 +70,7 @@ fn behind(place: Position, bytes: &[u8], at: usize) -> Position
 
 /// The places of the bytes of a text, and behind them that of its end. Refused for want of memory alone.
 pub fn positions_of(alloc: Global, text: &str) -> Result<Vec<Position>, AllocError>
-    ensures count { IfOk result (λ places. length places.items ≡ length text.now + 1) }
-    ensures places { IfOk result (λ places. ArePositions text.now places.items) }
+    ensures { IfOk result (λ places. places.items ≡ positions text.now (length text.now)) }
 {
     let bytes = text.as_bytes();
     let mut place = Position { line: 0, column: 0 };
