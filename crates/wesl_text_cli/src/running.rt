@@ -8,9 +8,7 @@ use std::fs;
 use std::path::Path;
 use std::rt::Files;
 use wesl_cond_features::Feature;
-use wesl_text_link::{
-    LinkWish, LinkedText, MapWish, ProjectModules, linked_text, read_builtins,
-};
+use wesl_text_link::{LinkWish, LinkedText, MapWish, ProjectModules, linked_text, read_builtins};
 use wesl_text_project::{
     Description, Layout, ProjectFault, default_root, description_of, given_packages, layout_of,
     parsed_root, root_of_file,

@@ -198,7 +198,14 @@ fn assembled_text<R>(
         text
     };
     let source_map = match wish.map {
-        Some(asked) => Some(modules.source_map(alloc, asked, text.as_str(), &map, wish.root, &unit)?),
+        Some(asked) => Some(modules.source_map(
+            alloc,
+            asked,
+            text.as_str(),
+            &map,
+            wish.root,
+            &unit,
+        )?),
         None => None,
     };
     Ok(LinkedText {

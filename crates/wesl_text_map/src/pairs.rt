@@ -43,9 +43,10 @@ impl Pairs {
         original: usize,
     ) -> Result<(), AllocError> {
         self.add_identifiers(printed, number, source, text, original)?;
-        if let (Some(here), Some(there)) =
-            (printed.declaration(number), text.declaration(original))
-        {
+        if let (Some(here), Some(there)) = (
+            printed.declaration(number),
+            text.declaration(original),
+        ) {
             self.add_nodes(alloc, here, source, there)?;
         }
         Ok(())

@@ -99,11 +99,7 @@ fn mappings_of(
 }
 
 // The mapping of a pair.
-fn mapping_of(
-    pair: &Pair,
-    printed: &ReadText<'_>,
-    texts: &[ReadText<'_>],
-) -> Option<Mapping> {
+fn mapping_of(pair: &Pair, printed: &ReadText<'_>, texts: &[ReadText<'_>]) -> Option<Mapping> {
     let text = texts.get(pair.source)?;
     Some(Mapping {
         generated: *printed.positions.get(pair.generated as usize)?,

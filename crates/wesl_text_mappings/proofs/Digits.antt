@@ -1,8 +1,8 @@
 -- What digits are read as.
-use Rattle.std.proofs.Common.{◌≡◌, ◌+◌, ◌-◌, ◌*◌, ◌/◌, ◌%◌, ◌<◌, ◌≤◌, ◌∙◌, ℕ, ltb, true, false, if◌then◌else◌, List, [], ◌∷◌, ◌++◌, Result, Ok, Err, OnOk, Option, Some, refl, ap, sym, append_assoc, arith}
+use Rattle.std.proofs.Common.{◌≡◌, ◌+◌, ◌-◌, ◌*◌, ◌%◌, ◌<◌, ◌∙◌, ℕ, ltb, false, List, [], ◌∷◌, ◌++◌, Result, Ok, Err, OnOk, Some, refl, ap, append_assoc, arith}
 use Rattle.std.proofs.lemmas.Bool.{lt-ltb}
 use Rattle.std.proofs.lemmas.Bool.Decides.{nat_tests}
-use Rattle.wesl_text_mappings.specs.Vlq.{AddsDigit, AddsMove, AddsNumber, digit, moved, number}
+use Rattle.wesl_text_mappings.specs.Vlq.{AddsDigit, AddsNumber, digit, moved, number}
 
 -- a last digit is the number
 read_last : (d c : ℕ) (more : List ℕ) → digit c ≡ d → d < 32 → number (c ∷ more) ≡ Some (d, more)

@@ -1,6 +1,6 @@
-use Rattle.std.proofs.Common.{◌≡◌, ◌+◌, ◌≤◌, ◌∙◌, ℕ, true, false, refl, ap, sym, arith}
+use Rattle.std.proofs.Common.{◌≡◌, ◌+◌, ◌∙◌, ℕ, true, false, refl, ap, sym, arith}
 use Rattle.wesl_text_mappings.specs.declared.positions.Position.{Position}
-use Rattle.wesl_text_mappings.specs.Positions.{byte, column, line, units}
+use Rattle.wesl_text_mappings.specs.Positions.{column, line, units}
 use Rattle.wesl_text_mappings.proofs.Behind.{column_at_most, line_at_most, position_behind, units_at_most}
 use Rattle.wesl_text_mappings.proofs.positions.behind.Goals as goal
 

@@ -1,6 +1,6 @@
-use Rattle.std.proofs.Common.{◌≡◌, ◌+◌, ◌∙◌, ℕ, List, [], ◌∷◌, ◌++◌, refl, ap, sym}
+use Rattle.std.proofs.Common.{◌∙◌, List, [], ◌∷◌, ◌++◌, refl, ap, sym}
 use Rattle.wesl_text_mappings.specs.declared.positions.Position.{Position}
-use Rattle.wesl_text_mappings.specs.Positions.{column, line, position, positions}
+use Rattle.wesl_text_mappings.specs.Positions.{column, line, positions}
 use Rattle.wesl_text_mappings.proofs.Behind.{positions_behind}
 use Rattle.wesl_text_mappings.proofs.positions.positions_of.Goals as goal
 
@@ -13,7 +13,8 @@ loop-at-init c =
 pub loop-at-preserved : goal.loop-at-preserved
 loop-at-preserved c =
     let t = c.as_bytes-bytes.result.now in
-    let next = c.behind-place.result in
-    (c.behind-place.ensures,
-    c.in_ok-push-2.ensures.items ∙ (ap (λ (l : List Position). l ++ next ∷ []) c.loop-at.invariant.1
-    ∙ (ap (λ (p : Position). positions t c.loop-at.at ++ p ∷ []) c.behind-place.ensures ∙ sym (positions_behind t c.loop-at.at))))
+    let next = c.behind-place.result in (
+      c.behind-place.ensures,
+      c.in_ok-push-2.ensures.items ∙ (ap (λ (l : List Position). l ++ next ∷ []) c.loop-at.invariant.1
+          ∙ (ap (λ (p : Position). positions t c.loop-at.at ++ p ∷ []) c.behind-place.ensures ∙ sym (positions_behind t c.loop-at.at))),
+    )

@@ -1,4 +1,4 @@
-use Rattle.std.proofs.Common.{◌≡◌, ◌+◌, ◌*◌, ◌/◌, ◌%◌, ◌<◌, ℕ, string_bytes, arith}
+use Rattle.std.proofs.Common.{◌+◌, ◌*◌, ◌/◌, ◌%◌, string_bytes, arith}
 use Rattle.wesl_text_mappings.specs.Vlq.{AddsDigit, AddsNumber}
 use Rattle.wesl_text_mappings.proofs.Digits.{adds_more, adds_only, on_ok}
 use Rattle.wesl_text_mappings.proofs.vlq.+push_digits.Goals as goal
