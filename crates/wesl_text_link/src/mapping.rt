@@ -20,10 +20,9 @@ pub struct MapWish<'w> {
 
 // A module that was read, as the map takes it.
 #[derive(Drop)]
-struct MappedModule<'m> {
+struct MappedModule {
     // its file, as it is named from the folder of the map
     file: String,
-    text: &'m str,
     // its unit, as the features leave it
     unit: TranslationUnit,
 }
@@ -41,7 +40,7 @@ impl<'r, R> ProjectModules<'r, R> {
     ) -> Result<String, ProjectFault> {
         let modules = self.mapped_modules(alloc, wish.map)?;
         let origins = self.origins(alloc, map, root, unit, &modules)?;
-        let sources = sources_of(alloc, &modules)?;
+        let sources = self.sources(alloc, &modules)?;
         let file = seen_from(alloc, wish.map, wish.file.unwrap_or(""))?;
         let printed = printed_unit(alloc, text)?;
         let linked = MapText {
@@ -57,13 +56,12 @@ impl<'r, R> ProjectModules<'r, R> {
         &self,
         alloc: Global,
         map: &str,
-    ) -> Result<Vec<MappedModule<'_>>, ProjectFault> {
+    ) -> Result<Vec<MappedModule>, ProjectFault> {
         let mut modules = Vec::new(alloc);
         for (path, module) in self.read.iter() {
             let unit = self.unit_again(alloc, path, module)?;
             modules.push(MappedModule {
                 file: seen_from(alloc, map, module.file.as_str())?,
-                text: module.text.as_str(),
                 unit,
             })?;
         }
@@ -83,6 +81,23 @@ impl<'r, R> ProjectModules<'r, R> {
         }
     }
 
+    // The modules that were read as texts of the map.
+    fn sources<'m>(
+        &'m self,
+        alloc: Global,
+        modules: &'m [MappedModule],
+    ) -> Result<Vec<MapText<'m>>, AllocError> {
+        let mut sources = Vec::with_capacity(alloc, modules.len())?;
+        for (module, mapped) in self.read.values().zip(modules.iter()) {
+            sources.push(MapText {
+                file: mapped.file.as_str(),
+                text: module.text.as_str(),
+                unit: &mapped.unit,
+            })?;
+        }
+        Ok(sources)
+    }
+
     // Of each declaration of a linked unit where it comes from.
     fn origins(
         &self,
@@ -90,7 +105,7 @@ impl<'r, R> ProjectModules<'r, R> {
         map: &BasicSourceMap,
         root: &ModulePath,
         unit: &TranslationUnit,
-        modules: &[MappedModule<'_>],
+        modules: &[MappedModule],
     ) -> Result<Vec<Option<MapOrigin>>, AllocError> {
         let mut origins = Vec::with_capacity(alloc, unit.global_declarations().len())?;
         let mut last = None;
@@ -106,11 +121,11 @@ impl<'r, R> ProjectModules<'r, R> {
     }
 
     // The number of the module from which a declaration of a name comes.
-    fn module_of(
-        &self,
-        map: &BasicSourceMap,
-        root: &ModulePath,
-        unit: &TranslationUnit,
+    fn module_of<'m>(
+        &'m self,
+        map: &'m BasicSourceMap,
+        root: &'m ModulePath,
+        unit: &'m TranslationUnit,
         node: &GlobalDeclarationNode,
     ) -> Option<usize> {
         let ident = declared(&node.node)?;
@@ -129,24 +144,8 @@ fn printed_unit(alloc: Global, text: &str) -> Result<TranslationUnit, AllocError
     }
 }
 
-// The modules as sources of a map.
-fn sources_of<'m>(
-    alloc: Global,
-    modules: &'m [MappedModule<'_>],
-) -> Result<Vec<MapText<'m>>, AllocError> {
-    let mut sources = Vec::with_capacity(alloc, modules.len())?;
-    for module in modules {
-        sources.push(MapText {
-            file: module.file.as_str(),
-            text: module.text,
-            unit: &module.unit,
-        })?;
-    }
-    Ok(sources)
-}
-
 // The declaration at a place in the unit of a module.
-fn origin_in(modules: &[MappedModule<'_>], source: usize, span: Span) -> Option<MapOrigin> {
+fn origin_in(modules: &[MappedModule], source: usize, span: Span) -> Option<MapOrigin> {
     let declarations = modules.get(source)?.unit.global_declarations();
     let number = declarations.partition_point(|node| node.span.start < span.start);
     match declarations.get(number) {
@@ -161,7 +160,7 @@ fn origin_in(modules: &[MappedModule<'_>], source: usize, span: Span) -> Option<
 // The same of one that declares no name, as a `const_assert`: it comes from the module of the one before it, where that has one at this
 // place behind it, and else from the first module that has.
 fn unnamed_origin(
-    modules: &[MappedModule<'_>],
+    modules: &[MappedModule],
     last: Option<MapOrigin>,
     span: Span,
 ) -> Option<MapOrigin> {
