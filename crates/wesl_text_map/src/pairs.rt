@@ -61,23 +61,25 @@ impl Pairs {
         text: &ReadText<'_>,
         original: usize,
     ) -> Result<(), AllocError> {
-        let here = printed.part(number);
-        let there = text.part(original);
-        if here.identifiers.len() != there.identifiers.len() {
+        let here = printed.identifiers_of(number);
+        let there = text.identifiers_of(original);
+        if here.len() != there.len() {
             return Ok(());
         }
+        let left = printed.spans_of(number);
+        let right = text.spans_of(original);
         let mut before = Finder::new(&printed.tokens);
         let mut after = Finder::new(&text.tokens);
-        for (index, identifier) in here.identifiers.iter().enumerate() {
-            if let (Some(left), Some(other), Some(right)) = (
-                here.spans.get(index),
-                there.identifiers.get(index),
-                there.spans.get(index),
+        for (index, identifier) in here.iter().enumerate() {
+            if let (Some(round), Some(other), Some(around)) = (
+                left.get(index),
+                there.get(index),
+                right.get(index),
             ) {
                 let name = printed.spelling(identifier.ident);
                 let spelling = text.spelling(other.ident);
-                let generated = before.find(*left, &identifier.standing, name);
-                let found = after.find(*right, &other.standing, spelling);
+                let generated = before.find(*round, &identifier.standing, name);
+                let found = after.find(*around, &other.standing, spelling);
                 self.add_named(generated, source, found, name, spelling)?;
             }
         }

@@ -21,13 +21,6 @@ pub(crate) struct ReadText<'t> {
     pub(crate) positions: Vec<Position>,
 }
 
-/// The identifiers of a declaration, with the spans of the innermost nodes round them.
-#[derive(Clone, Copy)]
-pub(crate) struct Part<'p, 't> {
-    pub(crate) identifiers: &'p [Occurrence<'t>],
-    pub(crate) spans: &'p [Span],
-}
-
 impl<'t> ReadText<'t> {
     /// A text and the unit that it says.
     pub(crate) fn of(
@@ -49,18 +42,25 @@ impl<'t> ReadText<'t> {
         self.unit.global_declarations().get(number)
     }
 
-    /// The identifiers of the declaration of a number.
-    pub(crate) fn part(&self, number: usize) -> Part<'_, 't> {
-        let starts = self.identifiers.starts.get(number..).unwrap_or(&[]);
-        let (first, end) = match starts {
-            [first, end, ..] => (*first, *end),
-            [first] => (*first, self.spans.len()),
-            [] => (0, 0),
-        };
-        Part {
-            identifiers: self.identifiers.all.get(first..end).unwrap_or(&[]),
-            spans: self.spans.get(first..end).unwrap_or(&[]),
+    // How many identifiers come before the declaration of a number, and before the next one.
+    fn bounds(&self, number: usize) -> (usize, usize) {
+        match self.identifiers.starts.get(number..) {
+            Some([first, end, ..]) => (*first, *end),
+            Some([first]) => (*first, self.spans.len()),
+            _ => (0, 0),
         }
+    }
+
+    /// The identifiers of the declaration of a number.
+    pub(crate) fn identifiers_of(&self, number: usize) -> &[Occurrence<'t>] {
+        let (first, end) = self.bounds(number);
+        self.identifiers.all.get(first..end).unwrap_or(&[])
+    }
+
+    /// The spans of the innermost nodes round them.
+    pub(crate) fn spans_of(&self, number: usize) -> &[Span] {
+        let (first, end) = self.bounds(number);
+        self.spans.get(first..end).unwrap_or(&[])
     }
 
     /// The spelling of an identifier.
