@@ -7,7 +7,7 @@ use wesl_scope::{
     Binder, Clash, Reading, SyntaxUtil, clashes, identifier_spans, names_clash, strip_except,
 };
 use wesl_scope_occurrences::{Identifiers, Standing, occurrences};
-use wesl_tree::{Span, TranslationUnit};
+use wesl_tree::{Ident, Span, TranslationUnit};
 
 /// The identifiers of a unit, or none.
 fn identifiers<'a>(row: Row<'_>, unit: &'a TranslationUnit) -> Identifiers<'a> {
@@ -215,6 +215,16 @@ pub fn clashes_told(row: Row<'_>) -> Value {
     answer.end(row)
 }
 
+/// The name of an identifier of a unit.
+fn name_of(unit: &TranslationUnit, ident: Ident) -> &str {
+    let names = unit.names();
+    if ident.0 < names.len() {
+        names.name(ident)
+    } else {
+        ""
+    }
+}
+
 /// An identifier by its name, and the span of the innermost node round it.
 fn spanned_value(row: Row<'_>, name: &str, span: Span) -> Value {
     let mut answer = Object::new(row.alloc);
@@ -233,7 +243,7 @@ pub fn spans_told(row: Row<'_>) -> Value {
     let mut answer = List::new(row.alloc);
     for occurrence in identifiers(row, &unit).all.as_slice() {
         if let Some(span) = spans.get(occurrence.place) {
-            answer.put(spanned_value(row, unit.names().name(occurrence.ident), *span));
+            answer.put(spanned_value(row, name_of(&unit, occurrence.ident), *span));
         }
     }
     answer.end(row)
