@@ -24,7 +24,7 @@ use Rattle.wesl_cond_alive.specs.Views.{state_of}
 use Rattle.wesl_cond_alive.specs.Noted.{Becomes, WalksAs, with_mark}
 use Rattle.wesl_cond_alive.specs.declared.walk.Walk.{Walk}
 use Rattle.wesl_cond_alive.proofs.Steps.{walked_as}
-use Rattle.wesl_cond_alive.proofs.Views.{view_type}
+use Rattle.wesl_tree_syntax.proofs.Views.{type_of}
 
 -- a type, which names itself
 pub plain_type_joined : (here : Here) (s : State ℕ) (p : Option (Box ModulePath)) (i : Ident)
@@ -93,7 +93,7 @@ as_open {here} {a} {b} o w = record { noted = w.noted; found = λ k. w.found k �
 
 pub optional_type_leaf : (here : Here) (s : State ℕ) (o : Option TypeExpression) → walked_as leaf here s (optional type_view o) ≡ walked_as (listed []) here s (optional type_view o)
 optional_type_leaf here s None = refl
-optional_type_leaf here s (Some t) = rw (view_type t (out-TypeExpression t).template_args refl) refl
+optional_type_leaf here s (Some t) = rw (type_of t (out-TypeExpression t).template_args refl) refl
 
 pub type_as_open : {here : Here} {a b : Walk} (o : Option TypeExpression) → WalksAs leaf here a b (optional type_view o) → WalksAs (listed []) here a b (optional type_view o)
 type_as_open {here} {a} {b} o w = record { noted = w.noted; found = λ k. w.found k ∙ optional_type_leaf here (state_of a) o }

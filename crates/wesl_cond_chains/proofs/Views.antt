@@ -1,28 +1,18 @@
 -- The tree of a body, by the trees of its parts, and of a body in a role.
-use Rattle.std.proofs.Common.{◌≡◌, ℕ, [], ◌∷◌, Global, Vec, ap, rules, sym, ◌∙◌}
-use mathlib.Core.List.{map-map}
+use Rattle.std.proofs.Common.{◌≡◌, ℕ, [], ◌∷◌, Global, Vec, ap, sym, ◌∙◌}
 use Rattle.wesl_cond_chains.specs.Conditions.{recast, with_attributes}
 use Rattle.wesl_cond_chains.specs.Nodes.{attributes_forest}
 use Rattle.wesl_cond_features.specs.Answers.{Answers}
 use Rattle.wesl_cond_features.specs.declared.chain.Role.{Role}
-use Rattle.wesl_tree_syntax.specs.Tree.{attributes, before, branch, compound, compound_statement, end, kind, statements, tree, Forest, Tree}
-use Rattle.wesl_tree_syntax.specs.View.{attributes_tree, clause_step, compound_step, compound_view, continuing_step, else_if_step, else_step, if_step, listed, statement_step, statement_tree, statement_view}
+use Rattle.wesl_tree_syntax.specs.Tree.{attributes, before, branch, compound, compound_statement, end, kind, statements, tree, Forest}
+use Rattle.wesl_tree_syntax.specs.View.{listed, statement_tree, statement_view}
 use Rattle.wesl_tree_syntax.specs.declared.attribute.Attribute.{Attribute}
 use Rattle.wesl_tree_syntax.specs.declared.span.Spanned.{Spanned}
 use Rattle.wesl_tree_syntax.specs.declared.statement.CompoundStatement.{CompoundStatement, out-CompoundStatement}
-use Rattle.wesl_tree_syntax.specs.declared.statement.Statement.{Statement, the_lemmas}
-use Rattle.wesl_tree_syntax.specs.declared.statement.Statement.TheFolds.{fold_out-CompoundStatement, fold-roll-CompoundStatement}
+use Rattle.wesl_tree_syntax.specs.declared.statement.Statement.{Statement}
 use Rattle.wesl_tree_syntax.specs.declared.statement.Statement.TheViews as made
 use Rattle.wesl_tree_syntax.specs.declared.statement.Statement.TheViews.{roll-CompoundStatement}
-
-pub view_compound : (b : CompoundStatement) → compound_view b ≡ branch compound (attributes_tree (out-CompoundStatement b).attributes ∷ listed statement_tree statements (out-CompoundStatement b).statements ∷ [])
-view_compound b = fold_out-CompoundStatement Tree Tree Tree Tree Tree Tree Tree statement_step compound_step continuing_step else_step else_if_step if_step clause_step b ∙ simp map-map
-
-view_rolled : (a : Vec (Spanned Attribute) Global) (v : Vec (Spanned Statement) Global) → compound_view (roll-CompoundStatement (record { attributes = a; statements = v })) ≡ branch compound (attributes_tree a ∷ listed statement_tree statements v ∷ [])
-view_rolled a v = fold-roll-CompoundStatement Tree Tree Tree Tree Tree Tree Tree statement_step compound_step continuing_step else_step else_if_step if_step clause_step (record { attributes = a; statements = v }) ∙ simp map-map
-
-view_block : (b : CompoundStatement) → statement_view (made.Compound b) ≡ branch compound_statement (compound_view b ∷ [])
-view_block b = search (rules, the_lemmas)
+use Rattle.wesl_tree_syntax.proofs.Views.{view_block, view_compound, view_compound_of}
 
 -- a statement that is a body, with the body's attributes in a role
 pub compound_recast : (known : Answers ℕ) (role : Role) (s t : Statement) (b b0 : CompoundStatement) (a : Vec (Spanned Attribute) Global) → s ≡ made.Compound b → b0 ≡ b
@@ -33,7 +23,7 @@ compound_recast known role s t b b0 a is k new e =
     let v = (out-CompoundStatement b0).statements in
     ap (λ x. before (statement_view x) end) new
     ∙ ap (λ t. before t end) (view_block (roll-CompoundStatement (record { attributes = a; statements = v })))
-    ∙ ap (λ t. before (branch compound_statement (t ∷ [])) end) (view_rolled a v)
+    ∙ ap (λ t. before (branch compound_statement (t ∷ [])) end) (view_compound_of a v)
     ∙ ap (λ (f : Forest). tree (kind compound_statement) (tree (kind compound) (tree (kind attributes) f (before (listed statement_tree statements v) end)) end) end) e
     ∙ ap (λ t. with_attributes (recast known role) (before (branch compound_statement (t ∷ [])) end)) (sym (view_compound b0))
     ∙ ap (λ t. with_attributes (recast known role) (before t end)) (sym (view_block b0))

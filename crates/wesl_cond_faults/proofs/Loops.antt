@@ -5,8 +5,6 @@ use Rattle.wesl_cond_chains.specs.Judging.{closing}
 use Rattle.wesl_cond_chains.specs.Lists.{Element, alone, back, elements, holds_body, is_closed, is_entered, judged, option_of}
 use Rattle.wesl_cond_chains.specs.Nodes.{optional_forest}
 use Rattle.wesl_cond_features.specs.Features.{Replies, known}
-use Rattle.wesl_cond_unit.proofs.Settled.{view_continuing, view_loop}
-use Rattle.wesl_cond_unit.proofs.Views.{view_compound}
 use Rattle.wesl_cond_unit.proofs.Walked.{closing_none, open_front}
 use Rattle.wesl_cond_faults.proofs.Adding.{adds_both, adds_in, adds_none, adds_nothing, adds_own}
 use Rattle.wesl_cond_faults.proofs.Listing.{stay, held_body, held_option, inside_alone}
@@ -25,6 +23,7 @@ use Rattle.wesl_tree_syntax.specs.declared.statement.CompoundStatement.{Compound
 use Rattle.wesl_tree_syntax.specs.declared.statement.ContinuingStatement.{ContinuingStatement, out-ContinuingStatement}
 use Rattle.wesl_tree_syntax.specs.declared.statement.Statement.{Statement}
 use Rattle.wesl_tree_syntax.specs.declared.statement.Statement.TheViews as made
+use Rattle.wesl_tree_syntax.proofs.Views.{view_compound, view_continuing, view_loop}
 
 module _ (names : List Text) (reply : Replies ℕ) where
   abbrev pub trees_in : CompoundStatement → List Tree

@@ -7,8 +7,6 @@ use Rattle.wesl_cond_chains.specs.Nodes.{replies}
 use Rattle.wesl_cond_features.specs.Features.{Replies, known}
 use Rattle.wesl_cond_features.specs.declared.features.Features.{Features}
 use Rattle.wesl_cond_unit.proofs.Levels.{type_label}
-use Rattle.wesl_cond_unit.proofs.Settled.{view_clause}
-use Rattle.wesl_cond_unit.proofs.Views.{view_block, view_compound, view_else, view_else_if, view_for, view_if, view_if_clause, view_switch, view_while}
 use Rattle.wesl_cond_faults.proofs.Adding.{adds_nothing, adds_then, adds_past, adds_skip, adds_own, adds_inside}
 use Rattle.wesl_cond_faults.proofs.Listing.{stay, inside_alone, leaf_alone, own_alone}
 use Rattle.wesl_cond_faults.proofs.Walking.{no_list_in, no_list_stays}
@@ -40,6 +38,7 @@ use Rattle.wesl_tree_syntax.specs.declared.statement.IfClause.{IfClause, out-IfC
 use Rattle.wesl_tree_syntax.specs.declared.statement.Statement.{Statement}
 use Rattle.wesl_tree_syntax.specs.declared.statement.Statement.TheViews as made
 use Rattle.wesl_tree_syntax.specs.declared.statement.SwitchClause.{SwitchClause, out-SwitchClause}
+use Rattle.wesl_tree_syntax.proofs.Views.{view_block, view_clause, view_compound, view_else, view_else_if, view_for, view_if, view_if_clause, view_switch, view_while}
 
 module _ (names : List Text) (reply : Replies ℕ) where
   -- nodes that hold no list

@@ -18,7 +18,6 @@ use Rattle.wesl_tree_syntax.specs.declared.statement.CaseSelector.{CaseSelector}
 use Rattle.wesl_tree_syntax.specs.declared.statement.CaseSelector.TheVariants as selectors
 use Rattle.wesl_tree_syntax.specs.declared.statement.CompoundStatement.{CompoundStatement, out-CompoundStatement}
 use Rattle.wesl_tree_syntax.specs.declared.statement.Statement.{Statement}
-use Rattle.wesl_cond_alive.proofs.Views.{view_compound}
 use Rattle.wesl_cond_alive.specs.Kept.{kept_indexes}
 use Rattle.wesl_cond_alive.specs.Positions.{body_size, handed, has, is_plain, keeps_child, kept_at, size}
 use Rattle.wesl_cond_alive.specs.Sound.{outline_of}
@@ -26,6 +25,7 @@ use Rattle.wesl_cond_positions.specs.Found.{Finds, IsFound, choice_in, keeps_lea
 use Rattle.wesl_cond_positions.specs.declared.lookup.Lookup.{Lookup}
 use Rattle.wesl_cond_positions.proofs.Fields.{IsJudged, alone, below, from_tree, judged_at, leaf_at, no_element, this_element, through_span}
 use Rattle.wesl_cond_positions.proofs.Numbers.{found_as, kept_number, none_past}
+use Rattle.wesl_tree_syntax.proofs.Views.{view_compound}
 
 and_false : (b : Bool) → (b && false) ≡ false
 and_false true = refl

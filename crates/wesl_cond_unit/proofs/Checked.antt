@@ -8,9 +8,7 @@ use Rattle.wesl_cond_chains.specs.Faults.{beside}
 use Rattle.wesl_cond_chains.specs.Judging.{IsClear, Checks, RefusesIn}
 use Rattle.wesl_cond_chains.specs.Lists.{elements, alone, is_entered}
 use Rattle.wesl_cond_unit.proofs.Closed.{body_refused, body_checked}
-use Rattle.wesl_cond_unit.proofs.Settled.{view_clause, view_loop}
 use Rattle.wesl_cond_unit.proofs.Standing.{stay, split, in_first, nothing, clear_leaf, passed_by, checks_same, list_checked, first_refused, next_checked, skip}
-use Rattle.wesl_cond_unit.proofs.Views.{view_block, view_compound, view_else, view_else_if, view_for, view_if, view_if_clause, view_switch, view_while}
 use Rattle.wesl_cond_features.specs.Features.{Replies}
 use Rattle.wesl_tree_names.specs.Path.{Text}
 use Rattle.wesl_tree_names.specs.declared.errors.Diagnostic.{Diagnostic}
@@ -29,6 +27,7 @@ use Rattle.wesl_tree_syntax.specs.declared.statement.IfClause.{IfClause, out-IfC
 use Rattle.wesl_tree_syntax.specs.declared.statement.SwitchClause.{SwitchClause, out-SwitchClause}
 use Rattle.wesl_tree_syntax.specs.declared.statement.Statement.{Statement}
 use Rattle.wesl_tree_syntax.specs.declared.statement.Statement.TheViews as made
+use Rattle.wesl_tree_syntax.proofs.Views.{view_block, view_clause, view_compound, view_else, view_else_if, view_for, view_if, view_if_clause, view_loop, view_switch, view_while}
 
 -- the first refusal of three, if there is one
 abbrev pub in_turn : {A : Type 0} → Result A Diagnostic → Result A Diagnostic → Result A Diagnostic → Result A Diagnostic

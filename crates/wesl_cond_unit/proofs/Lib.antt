@@ -1,6 +1,5 @@
 pub mod Walk
 pub mod Fronts
-pub mod Views
 pub mod Leaves
 pub mod Standing
 pub mod Walked

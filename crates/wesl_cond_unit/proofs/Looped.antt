@@ -6,9 +6,7 @@ use Rattle.wesl_cond_chains.specs.Lists.{Element, elements, alone}
 use Rattle.wesl_cond_chains.specs.Nodes.{optional_forest}
 use Rattle.wesl_cond_unit.proofs.Checked.{in_turn}
 use Rattle.wesl_cond_unit.proofs.Closed.{closed_refused, front_refused, closed_checked, closed_front}
-use Rattle.wesl_cond_unit.proofs.Settled.{view_continuing}
 use Rattle.wesl_cond_unit.proofs.Standing.{stay, nothing}
-use Rattle.wesl_cond_unit.proofs.Views.{view_compound}
 use Rattle.wesl_cond_unit.proofs.Walked.{closing_none, closing_leaf}
 use Rattle.wesl_cond_chains.specs.Evaluation.{Judges, Refuses}
 use Rattle.wesl_cond_features.specs.Features.{Replies, known}
@@ -21,6 +19,7 @@ use Rattle.wesl_tree_syntax.specs.declared.span.Spanned.{Spanned}
 use Rattle.wesl_tree_syntax.specs.declared.statement.BreakIfStatement.{BreakIfStatement}
 use Rattle.wesl_tree_syntax.specs.declared.statement.CompoundStatement.{CompoundStatement, out-CompoundStatement}
 use Rattle.wesl_tree_syntax.specs.declared.statement.ContinuingStatement.{ContinuingStatement, out-ContinuingStatement}
+use Rattle.wesl_tree_syntax.proofs.Views.{view_compound, view_continuing}
 
 module _ (reply : Replies ℕ) (names : List Text) where
   abbrev pub trees_in : CompoundStatement → List Tree

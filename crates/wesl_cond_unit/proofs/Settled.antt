@@ -1,14 +1,13 @@
 -- What is left of statements, as the code leaves it.
 use Rattle.std.specs.Box.{box_value}
 use Rattle.std.specs.Vec.{with_items}
-use Rattle.std.proofs.Common.{◌≡◌, ℕ, true, false, List, [], ◌∷◌, ◌++◌, map, Option, Some, None, Vec, Box, Global, rules, refl, sym, ap, ◌∙◌}
+use Rattle.std.proofs.Common.{◌≡◌, ℕ, true, false, List, [], ◌∷◌, ◌++◌, map, Option, Some, None, Vec, Box, Global, refl, sym, ap, ◌∙◌}
 use mathlib.Core.List.{map-map}
 use Rattle.wesl_cond_chains.specs.Chains.{residual_list}
 use Rattle.wesl_cond_chains.specs.Lists.{element, elements, alone}
 use Rattle.wesl_cond_chains.specs.Nodes.{as_element, optional_elements, optional_forest}
 use Rattle.wesl_cond_chains.specs.Residual.{residual_tree}
 use Rattle.wesl_cond_unit.proofs.Levels.{inner, inner_left, listed_left, nodes_left, clauses_left, body_left, loop_left, continuing_left}
-use Rattle.wesl_cond_unit.proofs.Views.{view_block, view_compound, view_else, view_else_if, view_for, view_if, view_if_clause, view_switch, view_while}
 use Rattle.wesl_cond_features.specs.Answers.{Answers}
 use Rattle.wesl_tree_syntax.specs.Tree.{Tree, at, before, branch, declaration_node, end, forest_of, compound, compound_statement, for_loop, statement_node, statements, list, else_clause, else_if_clause, if_clause, if_statement, present, switch, switch_clause, loop, continuing, while_loop}
 use Rattle.wesl_tree_syntax.specs.View.{attributes_tree, break_if_view, clause_step, clause_view, compound_step, compound_view, continuing_step, continuing_view, else_if_step, else_if_view, else_step, else_view, expression_tree, global_view, if_step, if_view, listed, optional, placed, selector_view, statement_step, statement_tree, statement_view}
@@ -25,37 +24,14 @@ use Rattle.wesl_tree_syntax.specs.declared.statement.ElseClause.{ElseClause, out
 use Rattle.wesl_tree_syntax.specs.declared.statement.ElseIfClause.{ElseIfClause, out-ElseIfClause}
 use Rattle.wesl_tree_syntax.specs.declared.statement.IfClause.{IfClause, out-IfClause}
 use Rattle.wesl_tree_syntax.specs.declared.statement.SwitchClause.{SwitchClause, out-SwitchClause}
-use Rattle.wesl_tree_syntax.specs.declared.statement.Statement.{Statement, the_lemmas}
-use Rattle.wesl_tree_syntax.specs.declared.statement.Statement.TheFolds.{fold_out-ContinuingStatement, fold_out-SwitchClause, fold-roll-CompoundStatement, fold-roll-ContinuingStatement, fold-roll-ElseClause, fold-roll-ElseIfClause, fold-roll-IfClause, fold-roll-SwitchClause}
+use Rattle.wesl_tree_syntax.specs.declared.statement.Statement.{Statement}
+use Rattle.wesl_tree_syntax.specs.declared.statement.Statement.TheFolds.{fold-roll-CompoundStatement}
 use Rattle.wesl_tree_syntax.specs.declared.statement.Statement.TheViews as made
 use Rattle.wesl_tree_syntax.specs.declared.statement.Statement.TheViews.{roll-CompoundStatement, roll-ContinuingStatement, roll-ElseClause, roll-ElseIfClause, roll-IfClause, roll-SwitchClause}
+use Rattle.wesl_tree_syntax.proofs.Views.{view_block, view_clause, view_clause_of, view_compound, view_continuing, view_continuing_of, view_else, view_else_if, view_else_if_of, view_else_of, view_for, view_if, view_if_clause, view_if_clause_of, view_loop, view_switch, view_while}
 
 view_rolled : (a : Vec (Spanned Attribute) Global) (v : Vec (Spanned Statement) Global) → compound_view (roll-CompoundStatement (record { attributes = a; statements = v })) ≡ branch compound (attributes_tree a ∷ branch statements (map statement_tree v.items) ∷ [])
 view_rolled a v = fold-roll-CompoundStatement Tree Tree Tree Tree Tree Tree Tree statement_step compound_step continuing_step else_step else_if_step if_step clause_step (record { attributes = a; statements = v }) ∙ simp map-map
-
-pub view_continuing : (c : ContinuingStatement) → continuing_view c ≡ branch continuing (attributes_tree (out-ContinuingStatement c).attributes ∷ compound_view (out-ContinuingStatement c).body ∷ optional break_if_view (out-ContinuingStatement c).break_if ∷ [])
-view_continuing c = fold_out-ContinuingStatement Tree Tree Tree Tree Tree Tree Tree statement_step compound_step continuing_step else_step else_if_step if_step clause_step c
-
-view_rolled_continuing : (a : Vec (Spanned Attribute) Global) (b : CompoundStatement) (o : Option BreakIfStatement) → continuing_view (roll-ContinuingStatement (record { attributes = a; body = b; break_if = o })) ≡ branch continuing (attributes_tree a ∷ compound_view b ∷ optional break_if_view o ∷ [])
-view_rolled_continuing a b o = fold-roll-ContinuingStatement Tree Tree Tree Tree Tree Tree Tree statement_step compound_step continuing_step else_step else_if_step if_step clause_step (record { attributes = a; body = b; break_if = o })
-
-pub view_loop : (a : Vec (Spanned Attribute) Global) (b : CompoundStatement) (o : Option ContinuingStatement) → statement_view (made.Loop a b o) ≡ branch loop (attributes_tree a ∷ compound_view b ∷ optional continuing_view o ∷ [])
-view_loop a b o = search (rules, the_lemmas)
-
-pub view_clause : (c : SwitchClause) → clause_view c ≡ branch switch_clause (attributes_tree (out-SwitchClause c).attributes ∷ listed selector_view list (out-SwitchClause c).case_selectors ∷ compound_view (out-SwitchClause c).body ∷ [])
-view_clause c = fold_out-SwitchClause Tree Tree Tree Tree Tree Tree Tree statement_step compound_step continuing_step else_step else_if_step if_step clause_step c
-
-view_rolled_if : (e : Spanned Expression) (b : CompoundStatement) → if_view (roll-IfClause (record { expression = e; body = b })) ≡ branch if_clause (expression_tree e ∷ compound_view b ∷ [])
-view_rolled_if e b = fold-roll-IfClause Tree Tree Tree Tree Tree Tree Tree statement_step compound_step continuing_step else_step else_if_step if_step clause_step (record { expression = e; body = b })
-
-view_rolled_else_if : (a : Vec (Spanned Attribute) Global) (e : Spanned Expression) (b : CompoundStatement) → else_if_view (roll-ElseIfClause (record { attributes = a; expression = e; body = b })) ≡ branch else_if_clause (attributes_tree a ∷ expression_tree e ∷ compound_view b ∷ [])
-view_rolled_else_if a e b = fold-roll-ElseIfClause Tree Tree Tree Tree Tree Tree Tree statement_step compound_step continuing_step else_step else_if_step if_step clause_step (record { attributes = a; expression = e; body = b })
-
-view_rolled_else : (a : Vec (Spanned Attribute) Global) (b : CompoundStatement) → else_view (roll-ElseClause (record { attributes = a; body = b })) ≡ branch else_clause (attributes_tree a ∷ compound_view b ∷ [])
-view_rolled_else a b = fold-roll-ElseClause Tree Tree Tree Tree Tree Tree Tree statement_step compound_step continuing_step else_step else_if_step if_step clause_step (record { attributes = a; body = b })
-
-view_rolled_clause : (a : Vec (Spanned Attribute) Global) (x : Vec CaseSelector Global) (b : CompoundStatement) → clause_view (roll-SwitchClause (record { attributes = a; case_selectors = x; body = b })) ≡ branch switch_clause (attributes_tree a ∷ listed selector_view list x ∷ compound_view b ∷ [])
-view_rolled_clause a x b = fold-roll-SwitchClause Tree Tree Tree Tree Tree Tree Tree statement_step compound_step continuing_step else_step else_if_step if_step clause_step (record { attributes = a; case_selectors = x; body = b })
 
 module _ (known : Answers ℕ) where
   -- each statement judged inside
@@ -98,7 +74,7 @@ module _ (known : Answers ℕ) where
       let a = (out-ContinuingStatement c).attributes in
       let b = out-CompoundStatement (out-ContinuingStatement c).body in
       let o = (out-ContinuingStatement c).break_if in
-      view_rolled_continuing a (roll-CompoundStatement (record { attributes = b.attributes; statements = v })) q
+      view_continuing_of a (roll-CompoundStatement (record { attributes = b.attributes; statements = v })) q
       ∙ ap (λ t. branch continuing (attributes_tree a ∷ t ∷ optional break_if_view q ∷ [])) (view_rolled b.attributes v)
       ∙ continuing_left known statement_tree break_if_view a b.attributes b.statements.items ys v.items o o q e (inner_break o) kept
       ∙ ap (λ t. residual_tree known (branch continuing (attributes_tree a ∷ t ∷ optional break_if_view o ∷ []))) (sym (view_compound (out-ContinuingStatement c).body))
@@ -119,21 +95,21 @@ module _ (known : Answers ℕ) where
   pub if_clause_settled : (c : IfClause) (b : CompoundStatement) → compound_view b ≡ residual_tree known (compound_view (out-IfClause c).body)
       → if_view (roll-IfClause (record { expression = (out-IfClause c).expression; body = b })) ≡ residual_tree known (if_view c)
   if_clause_settled c b e =
-      view_rolled_if (out-IfClause c).expression b
+      view_if_clause_of (out-IfClause c).expression b
       ∙ ap (λ t. branch if_clause (expression_tree (out-IfClause c).expression ∷ t ∷ [])) e
       ∙ ap (residual_tree known) (sym (view_if_clause c))
 
   pub else_if_settled : (c : ElseIfClause) (b : CompoundStatement) → compound_view b ≡ residual_tree known (compound_view (out-ElseIfClause c).body)
       → else_if_view (roll-ElseIfClause (record { attributes = (out-ElseIfClause c).attributes; expression = (out-ElseIfClause c).expression; body = b })) ≡ residual_tree known (else_if_view c)
   else_if_settled c b e =
-      view_rolled_else_if (out-ElseIfClause c).attributes (out-ElseIfClause c).expression b
+      view_else_if_of (out-ElseIfClause c).attributes (out-ElseIfClause c).expression b
       ∙ ap (λ t. branch else_if_clause (attributes_tree (out-ElseIfClause c).attributes ∷ expression_tree (out-ElseIfClause c).expression ∷ t ∷ [])) e
       ∙ ap (residual_tree known) (sym (view_else_if c))
 
   pub else_settled : (c : ElseClause) (b : CompoundStatement) → compound_view b ≡ residual_tree known (compound_view (out-ElseClause c).body)
       → else_view (roll-ElseClause (record { attributes = (out-ElseClause c).attributes; body = b })) ≡ residual_tree known (else_view c)
   else_settled c b e =
-      view_rolled_else (out-ElseClause c).attributes b
+      view_else_of (out-ElseClause c).attributes b
       ∙ ap (λ t. branch else_clause (attributes_tree (out-ElseClause c).attributes ∷ t ∷ [])) e
       ∙ ap (residual_tree known) (sym (view_else c))
 
@@ -149,7 +125,7 @@ module _ (known : Answers ℕ) where
   clause_settled c b e =
       let a = (out-SwitchClause c).attributes in
       let x = (out-SwitchClause c).case_selectors in
-      view_rolled_clause a x b
+      view_clause_of a x b
       ∙ ap (λ t. branch switch_clause (attributes_tree a ∷ t ∷ compound_view b ∷ [])) (ap (branch list) (sym (nodes_left known selector_view selector_left x.items)) ∙ sym (listed_left known (map selector_view x.items)))
       ∙ ap (λ t. branch switch_clause (attributes_tree a ∷ residual_tree known (branch list (map selector_view x.items)) ∷ t ∷ [])) e
       ∙ ap (residual_tree known) (sym (view_clause c))

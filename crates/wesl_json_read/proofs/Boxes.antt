@@ -20,7 +20,7 @@ use Rattle.wesl_json_read.specs.declared.reader.Reader.{Reader}
 use Rattle.wesl_json_read.proofs.Noting.{both, seen, weaker}
 use Rattle.wesl_json_read.proofs.Places.{memory}
 use Rattle.wesl_json_read.proofs.Arguments.{argument-form, argument-place}
-use Rattle.wesl_json_read.proofs.Trees.{made_argument}
+use Rattle.wesl_tree_syntax.proofs.Views.{view_argument_of}
 
 -- a path, in its box
 pub path_in_box : {k : Text} {d : Data} (p : ModulePath) {s m e : Reader} (o : Option (Box ModulePath)) → NotesMay k (leaf a_path) d (optional path_tree (Some p)) s m → IfSome o (λ b. (box_value b ≡ p) × (e ≡ m)) → IfNone o (Notes Never (λ _ y. y ≡ error.Memory) m e) → NotesMay k (leaf a_path) d (optional boxed_path o) s e
@@ -33,4 +33,4 @@ path_in_box {k} {d} p {s} {m} {e} (Some b) n same refused =
 -- an expression, as a template argument
 pub as_argument : {d : Data} (x : Spanned Expression) {s e : Reader} → NotesForm (node an_expression) d (expression_tree x) s e → NotesForm (node a_template_argument) d (argument_view (roll-TemplateArg (record { expression = x }))) s e
 as_argument {d} x {s} {e} n =
-    seen (sym (made_argument x)) (weaker {Q = λ spans. Reads spans (node a_template_argument) d (branch template_argument (expression_tree x ∷ []))} (λ a b h. record { form = argument-form s.spans d (expression_tree x) a b h.form }) (λ y h. argument-place s.spans d y h) n)
+    seen (sym (view_argument_of x)) (weaker {Q = λ spans. Reads spans (node a_template_argument) d (branch template_argument (expression_tree x ∷ []))} (λ a b h. record { form = argument-form s.spans d (expression_tree x) a b h.form }) (λ y h. argument-place s.spans d y h) n)

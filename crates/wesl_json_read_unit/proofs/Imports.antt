@@ -1,18 +1,14 @@
 -- The nodes and the trees of what is imported.
 use Rattle.std.proofs.Common.{◌≡◌, ◌∙◌, ℕ, List, [], ◌∷◌, Bool, true, false, if◌then◌else◌, Option, Some, None, String, Vec, Global, codes, inl, inr, refl, ap, rules, sym, true≢false}
-use mathlib.Core.List.{map-map}
 use Rattle.std.specs.Option.{is_some}
 use Rattle.serde_json.specs.Data.{Data, depth}
 use Rattle.serde_json.specs.Find.{get}
 use Rattle.wesl_tree_names.specs.Path.{Text}
 use Rattle.wesl_tree_names.specs.declared.names.Ident.{Ident}
-use Rattle.wesl_tree_syntax.specs.declared.import.ImportItem.{ImportItem}
 use Rattle.wesl_tree_syntax.specs.declared.import.ImportContent.{ImportContent, the_lemmas}
-use Rattle.wesl_tree_syntax.specs.declared.import.ImportContent as contents
-use Rattle.wesl_tree_syntax.specs.declared.import.ImportContent.TheViews as made
-use Rattle.wesl_tree_syntax.specs.declared.import.Import.{Import, roll-Import}
+use Rattle.wesl_tree_syntax.specs.declared.import.Import.{roll-Import}
 use Rattle.wesl_tree_syntax.specs.Tree.{Role, Tree, leaf as leaf_tree, absent, branch, ident, word, binder, kind, list, import_item, import_collection, import_entry, present}
-use Rattle.wesl_tree_syntax.specs.View.{content_view, entry_view, ident_tree, item_view, listed, names_tree, optional}
+use Rattle.wesl_tree_syntax.specs.View.{content_view, entry_view, ident_tree, item_view, names_tree, optional}
 use Rattle.wesl_json_form.specs.Nodes.{collection_node, item_node, nodes_of, whole_form}
 use Rattle.wesl_json_form.specs.Reading.{needed, optional as optional_reading, reading}
 use Rattle.wesl_json_form.specs.Schema.{Form, leaf, list_of, an_entry, an_ident, a_content, Row, needs, may, nothing, node_of_kind}
@@ -65,12 +61,6 @@ item-tree i None true h = cc
 item-tree i None false h = refl
 item-tree i (Some r) true h = refl
 item-tree i (Some r) false h = cc
-
-pub view-item : (i : ImportItem) → content_view (contents.Item i) ≡ item_view i
-view-item i = search (rules, the_lemmas)
-
-pub view-collection : (v : Vec Import Global) → content_view (made.Collection v) ≡ branch import_collection (listed entry_view list v ∷ [])
-view-collection v = search (rules, the_lemmas, map-map)
 
 pub made-entry : (p : Vec (String Global) Global) (x : ImportContent) → entry_view (roll-Import (record { path = p; content = x })) ≡ branch import_entry (names_tree p ∷ content_view x ∷ [])
 made-entry p x = search (rules, the_lemmas)

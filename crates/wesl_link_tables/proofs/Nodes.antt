@@ -2,22 +2,18 @@
 use Rattle.std.proofs.Common.{◌≡◌, ℕ, zero, suc, ◌+◌, ◌<◌, List, [], ◌∷◌, ◌++◌, map, take, length, get_or, Vec, Global, arith, refl, sym, ◌∙◌, ap, rules, append_assoc, append-nil}
 use mathlib.Core.List.{map-map}
 use Rattle.wesl_tree_names.specs.Path.{Path}
-use Rattle.wesl_tree_syntax.specs.Tree.{Tree, TreeOf, trees, forest_of, branch, import_collection, import_entry, import_node, list}
-use Rattle.wesl_tree_syntax.specs.View.{names_tree, entry_view, item_view, listed, content_view, content_step, entry_step, import_view, placed}
+use Rattle.wesl_tree_syntax.specs.Tree.{TreeOf, trees, forest_of, branch, import_collection, import_node, list}
+use Rattle.wesl_tree_syntax.specs.View.{entry_view, item_view, listed, content_view, import_view, placed}
 use Rattle.wesl_tree_syntax.specs.declared.span.Spanned.{Spanned}
 use Rattle.wesl_tree_syntax.specs.declared.import.ImportStatement.{ImportStatement}
-use Rattle.wesl_tree_syntax.specs.declared.import.Import.{Import, out-Import}
+use Rattle.wesl_tree_syntax.specs.declared.import.Import.{Import}
 use Rattle.wesl_tree_syntax.specs.declared.import.ImportItem.{ImportItem}
 use Rattle.wesl_tree_syntax.specs.declared.import.ImportContent.{ImportContent, the_lemmas, Item, Collection}
-use Rattle.wesl_tree_syntax.specs.declared.import.ImportContent.TheFolds.{fold_out-Import}
 use Rattle.wesl_cond_choices.specs.declared.place.Place.{Place}
 use Rattle.wesl_cond_choices.specs.declared.place.Place.TheVariants as places
 use Rattle.wesl_link_symbols.specs.declared.symbols.Import as world
 use Rattle.wesl_link_tables.specs.Imports as spec
 use Rattle.wesl_link_tables.specs.Imports.{statement_imports, all_imports}
-
-pub view_entry : (i : Import) → entry_view i ≡ branch import_entry (names_tree (out-Import i).path ∷ content_view (out-Import i).content ∷ [])
-view_entry i = fold_out-Import Tree Tree content_step entry_step i
 
 pub view_item : (x : ImportContent) (i : ImportItem) → x ≡ Item i → content_view x ≡ item_view i
 view_item x i is = ap content_view is ∙ shown

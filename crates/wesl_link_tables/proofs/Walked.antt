@@ -14,7 +14,8 @@ use Rattle.wesl_cond_choices.specs.declared.place.Place.{Place}
 use Rattle.wesl_link_symbols.specs.declared.symbols.Import.{Import}
 use Rattle.wesl_link_tables.specs.Imports as imports
 use Rattle.wesl_link_tables.specs.Walks.{imported}
-use Rattle.wesl_link_tables.proofs.Nodes.{view_entry, view_item, view_collection}
+use Rattle.wesl_link_tables.proofs.Nodes.{view_item, view_collection}
+use Rattle.wesl_tree_syntax.proofs.Views.{view_entry}
 
 taken : {X : Type 0} (i e : Bool) (found items deep deeper some more rest : List X) → deep ≡ found ++ some → deeper ≡ found ++ more
     → (if i then found ++ items else if e then deep else deeper) ≡ found ++ (if i then items else if e then some else more)

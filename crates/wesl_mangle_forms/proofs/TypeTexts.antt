@@ -8,14 +8,14 @@ use Rattle.std.specs.Global.{Box, Vec}
 use Rattle.wesl_tree_names.specs.Path.{Text}
 use Rattle.wesl_tree_names.specs.declared.names.Ident.{Ident}
 use Rattle.wesl_tree_names.specs.declared.path.ModulePath.{ModulePath}
-use Rattle.wesl_tree_syntax.specs.Tree.{Label, Forest, Tree, end, tree, kind, list, literal, type_or_identifier, reference, type_expression, branch, before, template_argument, forest_of, forest_below, tree_below}
-use Rattle.wesl_tree_syntax.specs.View.{argument_view, type_view, listed, optional, boxed_path, ident_tree, literal_tree, expression_view, expression_tree, expression_step, call_step, argument_step, type_step}
-use Rattle.wesl_tree_syntax.specs.declared.expression.Expression.{Expression, the_lemmas}
+use Rattle.wesl_tree_syntax.specs.Tree.{Label, Forest, Tree, end, tree, kind, list, literal, type_or_identifier, reference, type_expression, branch, before, forest_of, forest_below, tree_below}
+use Rattle.wesl_tree_syntax.specs.View.{argument_view, type_view, listed, optional, boxed_path, ident_tree, literal_tree, expression_view, expression_step, call_step, argument_step, type_step}
+use Rattle.wesl_tree_syntax.specs.declared.expression.Expression.{Expression}
 use Rattle.wesl_tree_syntax.specs.declared.expression.Expression as made
 use Rattle.wesl_tree_syntax.specs.declared.expression.Literal.{Literal}
 use Rattle.wesl_tree_syntax.specs.declared.expression.Literal.TheVariants as literals
 use Rattle.wesl_tree_syntax.specs.declared.expression.TemplateArg.{TemplateArg, out-TemplateArg}
-use Rattle.wesl_tree_syntax.specs.declared.expression.Expression.TheFolds.{fold_out-TemplateArg, fold-roll-TypeExpression}
+use Rattle.wesl_tree_syntax.specs.declared.expression.Expression.TheFolds.{fold-roll-TypeExpression}
 use Rattle.wesl_tree_syntax.specs.declared.expression.Expression.TheViews.{roll-out-TypeExpression}
 use Rattle.wesl_tree_syntax.specs.declared.expression.TypeExpression.{TypeExpression, out-TypeExpression, roll-TypeExpression}
 use Rattle.wesl_mangle_forms.specs.TypeText.{opening, between, closing, bracketed, mark_before, texts_in, tree_text, is_literal_or_type, is_normal, is_normal_type}
@@ -23,6 +23,7 @@ use Rattle.wesl_mangle_forms.specs.Written.{AddsText}
 use Rattle.wesl_mangle_forms.specs.declared.writer.Writer.{Writer}
 use Rattle.wesl_mangle_forms.proofs.Cuts.{and-both}
 use Rattle.wesl_mangle_forms.proofs.Written.{then, worded}
+use Rattle.wesl_tree_syntax.proofs.Views.{view_argument, view_literal, view_name}
 
 -- one more text at the end
 pub join-last : (sep x : Text) (ts : List Text) (t : Text) → (x ++ flat_map (λ y. sep ++ y) ts) ++ (sep ++ t) ≡ x ++ flat_map (λ y. sep ++ y) (ts ++ t ∷ [])
@@ -59,9 +60,6 @@ module _ {A : Type 0} (view : A → Tree) where
 pub map-twice : {A B C : Type 0} (f : B → C) (g : A → B) (xs : List A) → map (λ x. f (g x)) xs ≡ map f (map g xs)
 map-twice f g [] = refl
 map-twice f g (x ∷ xs) = ap (λ ys. f (g x) ∷ ys) (map-twice f g xs)
-
-pub view_argument : (a : TemplateArg) → argument_view a ≡ branch template_argument (expression_tree (out-TemplateArg a).expression ∷ [])
-view_argument a = fold_out-TemplateArg Tree Tree Tree Tree expression_step call_step argument_step type_step a
 
 -- an argument is written as its expression
 pub argument-text : (names : List Text) (a : TemplateArg) → tree_text names (expression_view (out-TemplateArg a).expression.node) ≡ tree_text names (argument_view a)
@@ -140,18 +138,12 @@ module _ (t : TypeExpression) where
 
 -- What an argument may be.
 
-view_literal : (l : Literal) → expression_view (made.Literal l) ≡ branch literal (literal_tree l ∷ [])
-view_literal l = search (rules, the_lemmas)
-
-view_inner : (t : TypeExpression) → expression_view (made.TypeOrIdentifier t) ≡ branch type_or_identifier (type_view t ∷ [])
-view_inner t = search (rules, the_lemmas)
-
 pub literal-text : (names : List Text) (e : Expression) (l : Literal) → e ≡ made.Literal l → tree_text names (literal_tree l) ≡ tree_text names (expression_view e)
 literal-text names e l is = sym (ap (tree_text names) (ap expression_view is ∙ view_literal l))
 
 module _ (e : Expression) (t : TypeExpression) (is : e ≡ made.TypeOrIdentifier t) where
   inner : expression_view e ≡ branch type_or_identifier (type_view t ∷ [])
-  inner = ap expression_view is ∙ view_inner t
+  inner = ap expression_view is ∙ view_name t
 
   pub inner-text : (names : List Text) → tree_text names (type_view t) ≡ tree_text names (expression_view e)
   inner-text names = sym (ap (tree_text names) inner)
@@ -196,4 +188,4 @@ type-fits : (u : Tree) → u.label ≡ kind type_expression → is_normal_type u
 type-fits u e = and-end (is_normal u.children) ∙ sym (ap (λ (l : Label). is_normal (tree l u.children end)) e)
 
 pub normal-inner : (e : Expression) (t : TypeExpression) → e ≡ made.TypeOrIdentifier t → is_normal_type (type_view t) ≡ fits e
-normal-inner e t is = type-fits (type_view t) (ap (λ (u : Tree). u.label) (view_type t)) ∙ sym (ap fits-tree (ap expression_view is ∙ view_inner t))
+normal-inner e t is = type-fits (type_view t) (ap (λ (u : Tree). u.label) (view_type t)) ∙ sym (ap fits-tree (ap expression_view is ∙ view_name t))

@@ -23,7 +23,8 @@ use Rattle.wesl_scope_occurrences.specs.Walk.{Here}
 use Rattle.wesl_scope_occurrences.specs.Events.{meets, opens, closes, ending, plain_level}
 use Rattle.wesl_tree_syntax.specs.declared.statement.Statement as made
 use Rattle.wesl_scope_occurrences.proofs.Telling.{Told, say, tell, told_by}
-use Rattle.wesl_scope_occurrences.proofs.Views.{view_any_type, view_increment, view_decrement}
+use Rattle.wesl_scope_occurrences.proofs.Views.{view_any_type}
+use Rattle.wesl_tree_syntax.proofs.Views.{view_decrement, view_increment}
 
 abbrev pub holding : Here → Told → Here
 holding here s = record here { held_block = length s.outer }

@@ -11,9 +11,8 @@ use Rattle.wesl_tree_syntax.specs.declared.expression.Expression.{Expression}
 use Rattle.wesl_tree_syntax.specs.declared.span.Spanned.{Spanned}
 use Rattle.wesl_tree_syntax.specs.declared.statement.Statement.{Statement}
 use Rattle.wesl_tree_syntax.specs.declared.statement.Statement as made
-use Rattle.wesl_scope_occurrences.proofs.Views.{view_decrement, view_increment}
 use Rattle.wesl_scope_spans.specs.Spans.{located_in}
-use Rattle.wesl_tree_copies.proofs.Views.{view_break, view_continue, view_discard}
+use Rattle.wesl_tree_syntax.proofs.Views.{view_break, view_continue, view_decrement, view_discard, view_increment}
 
 -- `++` and `--`
 pub stepped : (s : Span) (t : Statement) (a : Vec (Spanned Attribute)) (e : Spanned Expression) → (t ≡ made.Increment a e) ⊎ (t ≡ made.Decrement a e)

@@ -3,7 +3,6 @@ pub mod Expressions
 pub mod Attributes
 pub mod Steps
 pub mod Declared
-pub mod Views
 pub mod Freedom
 pub mod Counted
 pub mod Within

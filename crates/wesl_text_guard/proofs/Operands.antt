@@ -5,7 +5,6 @@ use Rattle.std.specs.Global.{Box}
 use Rattle.wesl_tree_base.specs.declared.span.Span.{Span}
 use Rattle.wesl_tree_syntax.specs.Tree.{Tree, Forest, at, before, branch, end, parenthesized, expression_node}
 use Rattle.wesl_tree_syntax.specs.declared.expression.Expression as made
-use Rattle.wesl_tree_renumber.proofs.Views.{view_parenthesized}
 use Rattle.wesl_tree_syntax.specs.View.{expression_tree, expression_view}
 use Rattle.wesl_tree_syntax.specs.declared.expression.Expression.{Expression}
 use Rattle.wesl_tree_syntax.specs.declared.span.Spanned.{Spanned}
@@ -15,6 +14,7 @@ use Rattle.wesl_text_guard.specs.Guards.{Guarded, as_it_is, as_operand}
 use Rattle.wesl_text_guard.specs.Parentheses.{enclosed, stands_as_operand, tree_with_parentheses}
 use Rattle.wesl_text_guard.specs.declared.guard.Guard.{Guard}
 use Rattle.wesl_text_guard.proofs.Absorbed.{more_enclosed}
+use Rattle.wesl_tree_syntax.proofs.Views.{view_parenthesized}
 
 -- an expression that was put into a box of its span, and that in parentheses into its place
 pub put_in : (inner : Box (Spanned Expression)) (node : Spanned Expression) → (box_value inner).span ≡ node.span

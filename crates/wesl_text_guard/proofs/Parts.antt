@@ -11,12 +11,10 @@ use Rattle.wesl_tree_syntax.specs.declared.expression.Expression.{Expression}
 use Rattle.wesl_tree_syntax.specs.declared.expression.Literal.{Literal}
 use Rattle.wesl_tree_syntax.specs.declared.expression.Literal.TheVariants as literals
 use Rattle.wesl_tree_syntax.specs.declared.expression.TemplateArg.{TemplateArg, out-TemplateArg, roll-TemplateArg}
-use Rattle.wesl_tree_renumber.proofs.Views.{view_argument, view_argument_of}
 use Rattle.wesl_tree_syntax.specs.declared.declaration.DeclarationKind.{DeclarationKind}
 use Rattle.wesl_tree_syntax.specs.declared.declaration.DeclarationKind.TheVariants as kinds
 use Rattle.wesl_tree_syntax.specs.declared.span.Spanned.{Spanned}
 use Rattle.wesl_tree_syntax.specs.declared.statement.ElseIfClause.{ElseIfClause, out-ElseIfClause}
-use Rattle.wesl_tree_copies.proofs.Views.{view_else_if}
 use Rattle.wesl_tree_syntax.specs.declared.statement.CaseSelector.{CaseSelector}
 use Rattle.wesl_tree_syntax.specs.declared.statement.CaseSelector.TheVariants as selectors
 use Rattle.wesl_tree_copies.proofs.Parts.{labelled}
@@ -24,6 +22,7 @@ use Rattle.wesl_text_form.specs.Operators.{Class}
 use Rattle.wesl_text_guard.specs.Guards.{Guarded, as_it_is, as_item, as_operand}
 use Rattle.wesl_text_guard.specs.Parentheses.{fitted, with_parentheses, tree_with_parentheses}
 use Rattle.wesl_text_guard.specs.declared.guard.Guard.{Guard}
+use Rattle.wesl_tree_syntax.proofs.Views.{view_argument, view_argument_of, view_else_if}
 
 -- some trees, one after the other
 pub record GuardedAll (old new : Guard) (befores afters : List Tree) : Type 0 where

@@ -11,7 +11,7 @@ use Rattle.wesl_text_form.specs.Spelling.{Slots, class_at, followed, leaf_slots,
 use Rattle.wesl_text_tokens.specs.Tokens.{number, open_list, close_list}
 use Rattle.wesl_text_print.specs.Printing.{class_at_node, expression_slots, list_slots, literal_label, name_slots, only_if, path_and_name, path_slots, separate_in, slots_in}
 use Rattle.wesl_text_print.proofs.Adding.{followed_twice, none_after, nothing_before, nothing_behind, provided_shows, shows, shows_before, shows_behind}
-use Rattle.wesl_text_print.proofs.Views.{argument-parts, call-parts, type-parts, view-binary, view-call, view-component, view-indexing, view-literal, view-parenthesized, view-type, view-unary}
+use Rattle.wesl_text_print.proofs.Views.{view-binary, view-call, view-component, view-indexing, view-literal, view-parenthesized, view-type, view-unary}
 use Rattle.wesl_tree_names.specs.Path.{Text}
 use Rattle.wesl_tree_names.specs.declared.names.Ident.{Ident}
 use Rattle.wesl_tree_names.specs.declared.path.ModulePath.{ModulePath}
@@ -29,6 +29,7 @@ use Rattle.wesl_tree_syntax.specs.declared.expression.Expression.{Expression, ma
 use Rattle.wesl_tree_syntax.specs.declared.expression.FunctionCall.{FunctionCall, out-FunctionCall}
 use Rattle.wesl_tree_syntax.specs.declared.expression.TypeExpression.{TypeExpression, out-TypeExpression}
 use Rattle.wesl_tree_syntax.specs.declared.expression.TemplateArg.{TemplateArg, out-TemplateArg}
+use Rattle.wesl_tree_syntax.proofs.Views.{view_argument, view_call, view_type}
 
 -- ---- what a node asks of its children
 
@@ -159,7 +160,7 @@ module _ (names : List Text) where
   call_slots c = followed (slots_in names a_type (type_view (out-FunctionCall c).ty)) (followed (Some (signed sign.ParenLeft ∷ [])) (followed (option_map trailing (separate_in names an_expression (listed expression_tree list (out-FunctionCall c).arguments).children)) (followed (Some (signed sign.ParenRight ∷ [])) (Some []))))
 
   pub call_parts_printed : (c : FunctionCall) → call_slots c ≡ slots_in names a_call (call_view c)
-  call_parts_printed c = ap (slots_in names a_call) (sym (call-parts c))
+  call_parts_printed c = ap (slots_in names a_call) (sym (view_call c))
 
   -- ---- types
 
@@ -171,7 +172,7 @@ module _ (names : List Text) where
   plain_by (Some q) i = ap (λ r. followed r (name_slots (name_in names i.0))) (sym (nothing_behind (path_slots (Some q)))) ∙ ap (followed (followed (path_slots (Some q)) (Some []))) (sym (nothing_behind (name_slots (name_in names i.0))))
 
   pub plain_printed : (t : TypeExpression) → (out-TypeExpression t).template_args ≡ None → path_and_name names (out-TypeExpression t).path (out-TypeExpression t).ident ≡ slots_in names a_type (type_view t)
-  plain_printed t is = plain_by (out-TypeExpression t).path (out-TypeExpression t).ident ∙ ap (λ o. slots_in names a_type (type_tree (out-TypeExpression t).path (out-TypeExpression t).ident o)) (sym is) ∙ ap (slots_in names a_type) (sym (type-parts t))
+  plain_printed t is = plain_by (out-TypeExpression t).path (out-TypeExpression t).ident ∙ ap (λ o. slots_in names a_type (type_tree (out-TypeExpression t).path (out-TypeExpression t).ident o)) (sym is) ∙ ap (slots_in names a_type) (sym (view_type t))
 
   abbrev listed_tree : Option (Box ModulePath) → Ident → List Tree → Tree
   listed_tree p i ts = branch type_expression (optional boxed_path p ∷ ident_tree reference i ∷ branch present (branch list ts ∷ []) ∷ [])
@@ -189,7 +190,7 @@ module _ (names : List Text) where
   argued_printed t v is =
       listed_by (out-TypeExpression t).path (out-TypeExpression t).ident (map argument_view v.items)
       ∙ ap (λ o. slots_in names a_type (type_tree (out-TypeExpression t).path (out-TypeExpression t).ident o)) (sym is)
-      ∙ ap (slots_in names a_type) (sym (type-parts t))
+      ∙ ap (slots_in names a_type) (sym (view_type t))
 
   pub no_list : (xs : List TemplateArg) → xs ≡ [] → None ≡ list_slots names (map argument_view xs)
   no_list xs is = rw is refl
@@ -199,7 +200,7 @@ module _ (names : List Text) where
   some_list (x ∷ xs) some = refl
 
   pub argument_printed : (a : TemplateArg) → node (out-TemplateArg a).expression ≡ slots_in names an_argument (argument_view a)
-  argument_printed a = sym (nothing_behind (node (out-TemplateArg a).expression)) ∙ ap (slots_in names an_argument) (sym (argument-parts a))
+  argument_printed a = sym (nothing_behind (node (out-TemplateArg a).expression)) ∙ ap (slots_in names an_argument) (sym (view_argument a))
 
   -- ---- no expression is spelled as nothing
 
@@ -212,7 +213,7 @@ module _ (names : List Text) where
       by_items (x ∷ xs) = subst (λ s. shows s ≡ true) (listed_by p i (argument_view x ∷ map argument_view xs)) (shows_behind (path_and_name names p i) (list_slots names (argument_view x ∷ map argument_view xs)) (shows_before (Some (must open_list ∷ [])) _ refl))
 
   type_shows : (t : TypeExpression) → shows (slots_in names a_type (type_view t)) ≡ true
-  type_shows t = subst (λ u. shows (slots_in names a_type u) ≡ true) (sym (type-parts t)) (type_shows_by (out-TypeExpression t).path (out-TypeExpression t).ident (out-TypeExpression t).template_args)
+  type_shows t = subst (λ u. shows (slots_in names a_type u) ≡ true) (sym (view_type t)) (type_shows_by (out-TypeExpression t).path (out-TypeExpression t).ident (out-TypeExpression t).template_args)
 
   pub call_shows : (c : FunctionCall) → shows (slots_in names a_call (call_view c)) ≡ true
   call_shows c = subst (λ s. shows s ≡ true) (call_parts_printed c) (shows_before (slots_in names a_type (type_view (out-FunctionCall c).ty)) _ (type_shows (out-FunctionCall c).ty))

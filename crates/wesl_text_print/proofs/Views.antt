@@ -1,21 +1,20 @@
 -- The tree of each expression by its parts.
-use Rattle.std.proofs.Common.{◌≡◌, [], ◌∷◌, Option, Some, None, String, Vec, Global, refl, ◌∙◌, rules}
+use Rattle.std.proofs.Common.{◌≡◌, [], ◌∷◌, Option, Some, None, String, Vec, Global, refl, rules}
 use mathlib.Core.List.{map-map}
 use Rattle.std.specs.Box.{box_value}
 use Rattle.std.specs.Global.{Box}
 use Rattle.wesl_tree_names.specs.declared.names.Ident.{Ident}
 use Rattle.wesl_tree_names.specs.declared.path.ModulePath.{ModulePath}
-use Rattle.wesl_tree_syntax.specs.Tree.{Tree, binary, unary, forest_of, branch, reference, literal, parenthesized, named_component, indexing, call_expression, call, type_or_identifier, type_expression, list, template_argument}
-use Rattle.wesl_tree_syntax.specs.View.{expression_tree, expression_view, call_view, type_view, argument_view, listed, optional, boxed_path, ident_tree, text_tree, literal_tree, expression_step, call_step, argument_step, type_step}
+use Rattle.wesl_tree_syntax.specs.Tree.{Tree, binary, unary, forest_of, branch, reference, literal, parenthesized, named_component, indexing, call_expression, type_or_identifier, type_expression, list}
+use Rattle.wesl_tree_syntax.specs.View.{expression_tree, expression_view, call_view, type_view, argument_view, listed, optional, boxed_path, ident_tree, text_tree, literal_tree, type_step}
 use Rattle.wesl_tree_syntax.specs.declared.span.Spanned.{Spanned}
 use Rattle.wesl_tree_syntax.specs.declared.expression.UnaryOperator.{UnaryOperator}
 use Rattle.wesl_tree_syntax.specs.declared.expression.BinaryOperator.{BinaryOperator}
 use Rattle.wesl_tree_syntax.specs.declared.expression.Literal.{Literal as Literal_}
 use Rattle.wesl_tree_syntax.specs.declared.expression.Expression.{Expression, the_lemmas, Literal, Parenthesized, NamedComponent, Indexing, Unary, Binary, FunctionCall as Call, TypeOrIdentifier}
-use Rattle.wesl_tree_syntax.specs.declared.expression.Expression.TheFolds.{fold_out-FunctionCall, fold_out-TemplateArg, fold_out-TypeExpression}
-use Rattle.wesl_tree_syntax.specs.declared.expression.FunctionCall.{FunctionCall, out-FunctionCall}
-use Rattle.wesl_tree_syntax.specs.declared.expression.TypeExpression.{TypeExpression, out-TypeExpression, map-TypeExpression}
-use Rattle.wesl_tree_syntax.specs.declared.expression.TemplateArg.{TemplateArg, out-TemplateArg}
+use Rattle.wesl_tree_syntax.specs.declared.expression.FunctionCall.{FunctionCall}
+use Rattle.wesl_tree_syntax.specs.declared.expression.TypeExpression.{TypeExpression, map-TypeExpression}
+use Rattle.wesl_tree_syntax.specs.declared.expression.TemplateArg.{TemplateArg}
 
 pub view-literal : (x : Expression) (l : Literal_) → x ≡ Literal l → expression_view x ≡ branch literal (literal_tree l ∷ [])
 view-literal x l is = search (rules, the_lemmas)
@@ -41,15 +40,6 @@ view-call x c is = search (rules, the_lemmas)
 pub view-type : (x : Expression) (t : TypeExpression) → x ≡ TypeOrIdentifier t → expression_view x ≡ branch type_or_identifier (type_view t ∷ [])
 view-type x t is = search (rules, the_lemmas)
 
-pub call-parts : (c : FunctionCall) → call_view c ≡ branch call (type_view (out-FunctionCall c).ty ∷ listed expression_tree list (out-FunctionCall c).arguments ∷ [])
-call-parts c = fold_out-FunctionCall Tree Tree Tree Tree expression_step call_step argument_step type_step c ∙ simp map-map
-
 mapped-type : (p : Option (Box ModulePath)) (i : Ident) (o : Option (Vec TemplateArg Global)) → type_step (map-TypeExpression Expression FunctionCall TemplateArg TypeExpression Tree Tree Tree Tree expression_view call_view argument_view type_view (record { path = p; ident = i; template_args = o })) ≡ branch type_expression (optional boxed_path p ∷ ident_tree reference i ∷ optional (listed argument_view list) o ∷ [])
 mapped-type p i None = refl
 mapped-type p i (Some v) = simp map-map
-
-pub argument-parts : (a : TemplateArg) → argument_view a ≡ branch template_argument (expression_tree (out-TemplateArg a).expression ∷ [])
-argument-parts a = fold_out-TemplateArg Tree Tree Tree Tree expression_step call_step argument_step type_step a
-
-pub type-parts : (t : TypeExpression) → type_view t ≡ branch type_expression (optional boxed_path (out-TypeExpression t).path ∷ ident_tree reference (out-TypeExpression t).ident ∷ optional (listed argument_view list) (out-TypeExpression t).template_args ∷ [])
-type-parts t = fold_out-TypeExpression Tree Tree Tree Tree expression_step call_step argument_step type_step t ∙ mapped-type (out-TypeExpression t).path (out-TypeExpression t).ident (out-TypeExpression t).template_args

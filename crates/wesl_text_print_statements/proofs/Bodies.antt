@@ -31,7 +31,8 @@ use Rattle.wesl_text_print_statements.specs.Parts.{all_in, attributes_slots, opt
 use Rattle.wesl_text_print_statements.specs.Variables.{unended_in}
 use Rattle.wesl_text_print_statements.specs.Bodies.{closing_slots, clauses_row, for_slots, headed_slots, opened_row, part_slots, selectors_slots, spelled_selectors, the_break_if, the_continuing, the_else, the_expression}
 use Rattle.wesl_text_print_statements.proofs.Rows.{option_then}
-use Rattle.wesl_text_print_statements.proofs.Views.{Attributes, view-block, view-clause, view-compound, view-continuing, view-else, view-else-if, view-for, view-if, view-if-clause, view-loop, view-return, view-switch, view-while}
+use Rattle.wesl_text_print_statements.proofs.Views.{Attributes}
+use Rattle.wesl_tree_syntax.proofs.Views.{view_block, view_clause, view_compound, view_continuing, view_else, view_else_if, view_for, view_if, view_if_clause, view_loop, view_return, view_switch, view_while}
 
 -- ---- shapes
 
@@ -60,44 +61,44 @@ module _ (names : List Text) where
   -- ---- bodies
 
   pub opened_printed : (b : CompoundStatement) → followed (attrs_of (out-CompoundStatement b).attributes) (followed (Some (signed is.BraceLeft ∷ [])) (followed (all_in names a_statement (listed statement_tree statements (out-CompoundStatement b).statements).children) (Some []))) ≡ row_below names opened_row (compound_view b)
-  opened_printed b = ap (row_below names opened_row) (sym (view-compound b))
+  opened_printed b = ap (row_below names opened_row) (sym (view_compound b))
 
   abbrev IsClosed : Tree → Type 0
   IsClosed t = followed (row_below names opened_row t) closing_slots ≡ slots_in names a_body t
 
   pub body_printed : (b : CompoundStatement) → followed (row_below names opened_row (compound_view b)) closing_slots ≡ body b
-  body_printed b = subst IsClosed (sym (view-compound b)) (three_closed (attrs_of (out-CompoundStatement b).attributes) (Some (signed is.BraceLeft ∷ [])) (all_in names a_statement (listed statement_tree statements (out-CompoundStatement b).statements).children) closing_slots)
+  body_printed b = subst IsClosed (sym (view_compound b)) (three_closed (attrs_of (out-CompoundStatement b).attributes) (Some (signed is.BraceLeft ∷ [])) (all_in names a_statement (listed statement_tree statements (out-CompoundStatement b).statements).children) closing_slots)
 
   -- a body with an end of its own
   abbrev HasEnd : {A : Type 0} → Row → (A → Tree) → Option A → Tree → Type 0
   HasEnd row view o t = followed (row_below names opened_row t) (followed (option_in names row view o) closing_slots) ≡ row_in names (inside compound opened_row (optional row (sign is.BraceRight nothing))) (t ∷ optional_tree view o ∷ [])
 
   with_end : {A : Type 0} (row : Row) (view : A → Tree) (o : Option A) (b : CompoundStatement) → HasEnd row view o (compound_view b)
-  with_end row view o b = subst (HasEnd row view o) (sym (view-compound b)) (ap (followed (row_below names opened_row (branch compound (attributes_tree (out-CompoundStatement b).attributes ∷ listed statement_tree statements (out-CompoundStatement b).statements ∷ [])))) (option_then names view row (sign is.BraceRight nothing) o []))
+  with_end row view o b = subst (HasEnd row view o) (sym (view_compound b)) (ap (followed (row_below names opened_row (branch compound (attributes_tree (out-CompoundStatement b).attributes ∷ listed statement_tree statements (out-CompoundStatement b).statements ∷ [])))) (option_then names view row (sign is.BraceRight nothing) o []))
 
   pub continuing_printed : (c : ContinuingStatement)
       → followed (attrs_of (out-ContinuingStatement c).attributes) (followed (Some (named (codes "continuing") ∷ [])) (followed (row_below names opened_row (compound_view (out-ContinuingStatement c).body)) (followed (option_in names the_break_if break_if_view (out-ContinuingStatement c).break_if) closing_slots))) ≡ slots_in names a_continuing (continuing_view c)
   continuing_printed c =
       ap (λ r. followed (attrs_of (out-ContinuingStatement c).attributes) (followed (Some (named (codes "continuing") ∷ [])) r)) (with_end the_break_if break_if_view (out-ContinuingStatement c).break_if (out-ContinuingStatement c).body)
-      ∙ ap (slots_in names a_continuing) (sym (view-continuing c))
+      ∙ ap (slots_in names a_continuing) (sym (view_continuing c))
 
   -- ---- clauses
 
   pub if_clause_printed : (c : IfClause) → followed (headed_slots names (codes "if") (out-IfClause c).expression.node) (followed (body (out-IfClause c).body) (Some [])) ≡ slots_in names an_if (if_view c)
-  if_clause_printed c = followed_twice (Some (named (codes "if") ∷ [])) (expression_slots names (out-IfClause c).expression.node) (followed (body (out-IfClause c).body) (Some [])) ∙ ap (slots_in names an_if) (sym (view-if-clause c))
+  if_clause_printed c = followed_twice (Some (named (codes "if") ∷ [])) (expression_slots names (out-IfClause c).expression.node) (followed (body (out-IfClause c).body) (Some [])) ∙ ap (slots_in names an_if) (sym (view_if_clause c))
 
   pub else_if_printed : (c : ElseIfClause) → followed (attrs_of (out-ElseIfClause c).attributes) (followed (Some (named (codes "else") ∷ [])) (followed (headed_slots names (codes "if") (out-ElseIfClause c).expression.node) (followed (body (out-ElseIfClause c).body) (Some [])))) ≡ slots_in names an_else_if (else_if_view c)
   else_if_printed c =
       ap (λ r. followed (attrs_of (out-ElseIfClause c).attributes) (followed (Some (named (codes "else") ∷ [])) r)) (followed_twice (Some (named (codes "if") ∷ [])) (expression_slots names (out-ElseIfClause c).expression.node) (followed (body (out-ElseIfClause c).body) (Some [])))
-      ∙ ap (slots_in names an_else_if) (sym (view-else-if c))
+      ∙ ap (slots_in names an_else_if) (sym (view_else_if c))
 
   pub else_printed : (c : ElseClause) → followed (attrs_of (out-ElseClause c).attributes) (followed (Some (named (codes "else") ∷ [])) (followed (body (out-ElseClause c).body) (Some []))) ≡ slots_in names an_else (else_view c)
-  else_printed c = ap (slots_in names an_else) (sym (view-else c))
+  else_printed c = ap (slots_in names an_else) (sym (view_else c))
 
   pub clause_printed : (c : SwitchClause) → followed (attrs_of (out-SwitchClause c).attributes) (followed (selectors_slots names (out-SwitchClause c).case_selectors) (followed (Some (may (symbol is.Colon) ∷ [])) (followed (body (out-SwitchClause c).body) (Some [])))) ≡ slots_in names a_clause (clause_view c)
   clause_printed c =
       clause_shape (not (is_end (spelled_selectors names (out-SwitchClause c).case_selectors))) (is_lone_default (spelled_selectors names (out-SwitchClause c).case_selectors)) (attrs_of (out-SwitchClause c).attributes) (Some (alone ∷ [])) (Some (named (codes "case") ∷ [])) (comma_slots names a_selector (map selector_view (out-SwitchClause c).case_selectors.items)) (Some (may (symbol is.Colon) ∷ [])) (followed (body (out-SwitchClause c).body) (Some []))
-      ∙ ap (slots_in names a_clause) (sym (view-clause c))
+      ∙ ap (slots_in names a_clause) (sym (view_clause c))
 
   -- ---- selectors
 
@@ -132,35 +133,35 @@ module _ (names : List Text) where
   bare s = slots_in names a_bare_statement (statement_view s)
 
   pub block_printed : (b : CompoundStatement) → body b ≡ bare (made.Compound b)
-  block_printed b = sym (nothing_behind (body b)) ∙ ap (slots_in names a_bare_statement) (sym (view-block b))
+  block_printed b = sym (nothing_behind (body b)) ∙ ap (slots_in names a_bare_statement) (sym (view_block b))
 
   pub if_printed : (a : Attributes) (i : IfClause) (es : Vec ElseIfClause Global) (o : Option ElseClause)
       → followed (attrs_of a) (followed (slots_in names an_if (if_view i)) (followed (all_in names an_else_if (listed else_if_view list es).children) (followed (option_in names the_else else_view o) (Some [])))) ≡ bare (made.If a i es o)
   if_printed a i es o =
       ap (λ r. followed (attrs_of a) (followed (slots_in names an_if (if_view i)) (followed (all_in names an_else_if (listed else_if_view list es).children) r))) (option_then names else_view the_else nothing o [])
-      ∙ ap (slots_in names a_bare_statement) (sym (view-if a i es o))
+      ∙ ap (slots_in names a_bare_statement) (sym (view_if a i es o))
 
   pub switch_printed : (a : Attributes) (e : Spanned Expression) (b : Attributes) (cs : Vec SwitchClause Global)
       → followed (attrs_of a) (followed (headed_slots names (codes "switch") e.node) (followed (attrs_of b) (row_in names clauses_row (listed clause_view clauses cs ∷ [])))) ≡ bare (made.Switch a e b cs)
   switch_printed a e b cs =
       ap (followed (attrs_of a)) (followed_twice (Some (named (codes "switch") ∷ [])) (expression_slots names e.node) (followed (attrs_of b) (row_in names clauses_row (listed clause_view clauses cs ∷ []))))
-      ∙ ap (slots_in names a_bare_statement) (sym (view-switch a e b cs))
+      ∙ ap (slots_in names a_bare_statement) (sym (view_switch a e b cs))
 
   pub loop_printed : (a : Attributes) (b : CompoundStatement) (o : Option ContinuingStatement)
       → followed (attrs_of a) (followed (Some (named (codes "loop") ∷ [])) (followed (row_below names opened_row (compound_view b)) (followed (option_in names the_continuing continuing_view o) closing_slots))) ≡ bare (made.Loop a b o)
   loop_printed a b o =
       ap (λ r. followed (attrs_of a) (followed (Some (named (codes "loop") ∷ [])) r)) (with_end the_continuing continuing_view o b)
-      ∙ ap (slots_in names a_bare_statement) (sym (view-loop a b o))
+      ∙ ap (slots_in names a_bare_statement) (sym (view_loop a b o))
 
   pub while_printed : (a : Attributes) (e : Spanned Expression) (b : CompoundStatement) → followed (attrs_of a) (followed (headed_slots names (codes "while") e.node) (followed (body b) (Some []))) ≡ bare (made.While a e b)
   while_printed a e b =
       ap (followed (attrs_of a)) (followed_twice (Some (named (codes "while") ∷ [])) (expression_slots names e.node) (followed (body b) (Some [])))
-      ∙ ap (slots_in names a_bare_statement) (sym (view-while a e b))
+      ∙ ap (slots_in names a_bare_statement) (sym (view_while a e b))
 
   pub return_printed : (a : Attributes) (e : Option (Spanned Expression)) → followed (attrs_of a) (followed (Some (named (codes "return") ∷ [])) (followed (option_in names the_expression expression_tree e) (Some (signed is.Semicolon ∷ [])))) ≡ bare (made.Return a e)
   return_printed a e =
       ap (λ r. followed (attrs_of a) (followed (Some (named (codes "return") ∷ [])) r)) (option_then names expression_tree the_expression (sign is.Semicolon nothing) e [])
-      ∙ ap (slots_in names a_bare_statement) (sym (view-return a e))
+      ∙ ap (slots_in names a_bare_statement) (sym (view_return a e))
 
   -- ---- the parts of a `for`
 
@@ -230,4 +231,4 @@ module _ (names : List Text) where
       ∙ ap (λ r. tested a r (is_part i) (is_part u)) (for_rows i c u b)
       ∙ ap (λ p. tested a (rows i c u b) p (is_part u)) (part_test i)
       ∙ ap (λ q. tested a (rows i c u b) (is_part_tree (optional_tree boxed i)) q) (part_test u)
-      ∙ ap (slots_in names a_bare_statement) (sym (view-for a i c u b))
+      ∙ ap (slots_in names a_bare_statement) (sym (view_for a i c u b))

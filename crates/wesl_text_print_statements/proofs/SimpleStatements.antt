@@ -23,7 +23,8 @@ use Rattle.wesl_text_operands.specs.Targets.{are_apart_in, is_target_in, spelled
 use Rattle.wesl_text_print_statements.specs.Variables.{unended_in}
 use Rattle.wesl_text_print_statements.specs.SimpleStatements.{assigned_slots, assignment_tree, simple_slots, stepped_slots, target_slots}
 use Rattle.wesl_text_print_statements.proofs.Variables.{ended_is, ending, local_ended, unended_is}
-use Rattle.wesl_text_print_statements.proofs.Views.{Attributes, view-assignment, view-call, view-decrement, view-increment, view-local}
+use Rattle.wesl_text_print_statements.proofs.Views.{Attributes}
+use Rattle.wesl_tree_syntax.proofs.Views.{view_assignment, view_call_statement, view_decrement, view_increment, view_local}
 
 -- ---- shapes
 
@@ -113,19 +114,19 @@ module _ (names : List Text) where
   )
 
   pub assignment_part : (a : Attributes) (o : AssignmentOperator) (l r : Spanned Expression) → IsPart (made.Assignment a o l r) (assignment_slots a o l r)
-  assignment_part a o l r = by_tree (made.Assignment a o l r) (assignment_tree a o l r) (assignment_slots a o l r) (view-assignment a o l r) refl (assignment_ended a o l r)
+  assignment_part a o l r = by_tree (made.Assignment a o l r) (assignment_tree a o l r) (assignment_slots a o l r) (view_assignment a o l r) refl (assignment_ended a o l r)
 
   pub assignment_unended : (a : Attributes) (o : AssignmentOperator) (l r : Spanned Expression) → unended_in names a_bare_statement (assignment_tree a o l r) ≡ simple_slots names (made.Assignment a o l r)
   assignment_unended a o l r = sym (assignment_printed a o l r) ∙ (assignment_part a o l r).0
 
   pub increment_part : (a : Attributes) (e : Spanned Expression) → IsPart (made.Increment a e) (stepped_slots names a e.node is.PlusPlus)
-  increment_part a e = by_tree (made.Increment a e) (branch increment (attributes_tree a ∷ expression_tree e ∷ [])) (stepped_slots names a e.node is.PlusPlus) (view-increment a e) refl (increment_ended a e)
+  increment_part a e = by_tree (made.Increment a e) (branch increment (attributes_tree a ∷ expression_tree e ∷ [])) (stepped_slots names a e.node is.PlusPlus) (view_increment a e) refl (increment_ended a e)
 
   pub decrement_part : (a : Attributes) (e : Spanned Expression) → IsPart (made.Decrement a e) (stepped_slots names a e.node is.MinusMinus)
-  decrement_part a e = by_tree (made.Decrement a e) (branch decrement (attributes_tree a ∷ expression_tree e ∷ [])) (stepped_slots names a e.node is.MinusMinus) (view-decrement a e) refl (decrement_ended a e)
+  decrement_part a e = by_tree (made.Decrement a e) (branch decrement (attributes_tree a ∷ expression_tree e ∷ [])) (stepped_slots names a e.node is.MinusMinus) (view_decrement a e) refl (decrement_ended a e)
 
   pub call_part : (a : Attributes) (c : FunctionCall) → IsPart (made.FunctionCall a c) (called_slots a c)
-  call_part a c = by_tree (made.FunctionCall a c) (branch call_statement (attributes_tree a ∷ call_view c ∷ [])) (called_slots a c) (view-call a c) refl (call_ended a c)
+  call_part a c = by_tree (made.FunctionCall a c) (branch call_statement (attributes_tree a ∷ call_view c ∷ [])) (called_slots a c) (view_call_statement a c) refl (call_ended a c)
 
   pub local_part : (d : Declaration) → IsPart (made.Declaration d) (unended_in names a_bare_statement (declaration_view d))
-  local_part d = by_tree (made.Declaration d) (declaration_view d) (unended_in names a_bare_statement (declaration_view d)) (view-local d) refl (ended_is names a_bare_statement (declaration_view d) _ (local_ended names d))
+  local_part d = by_tree (made.Declaration d) (declaration_view d) (unended_in names a_bare_statement (declaration_view d)) (view_local d) refl (ended_is names a_bare_statement (declaration_view d) _ (local_ended names d))

@@ -1,19 +1,18 @@
 -- The slots of imports and directives, in the order in which they are printed.
-use Rattle.std.proofs.Common.{◌≡◌, ℕ, zero, suc, List, [], ◌∷◌, true, Option, Some, None, Vec, Global, codes, refl, sym, ap, subst, ◌∙◌, rules}
-use mathlib.Core.List.{map-map}
+use Rattle.std.proofs.Common.{◌≡◌, ℕ, zero, suc, List, [], ◌∷◌, true, Option, Some, None, Vec, Global, codes, refl, sym, ap, subst, ◌∙◌}
 use Rattle.wesl_tree_base.specs.Pieces.{cut, slash}
 use Rattle.wesl_tree_names.specs.Path.{Path, Text, from_package, origin_view, relative}
 use Rattle.wesl_tree_names.specs.declared.names.Ident.{Ident}
 use Rattle.wesl_tree_names.specs.declared.path.ModulePath.{ModulePath}
 use Rattle.wesl_tree_names.specs.declared.path.PathOrigin.{PathOrigin}
-use Rattle.wesl_tree_syntax.specs.Tree.{Tree, binder, branch, end, import_collection, import_entry, leaf, list, path, text, texts}
+use Rattle.wesl_tree_syntax.specs.Tree.{Tree, binder, branch, end, import_collection, leaf, list, path, text, texts}
 use Rattle.wesl_tree_syntax.specs.Unit.{name_in}
-use Rattle.wesl_tree_syntax.specs.View.{content_step, content_view, entry_step, entry_view, ident_tree, import_view, item_view, listed, names_tree, path_tree, texts_of}
+use Rattle.wesl_tree_syntax.specs.View.{content_step, content_view, entry_step, entry_view, ident_tree, import_view, item_view, listed, path_tree, texts_of}
 use Rattle.wesl_tree_syntax.specs.declared.import.ImportItem.{ImportItem}
-use Rattle.wesl_tree_syntax.specs.declared.import.ImportContent.{ImportContent, map-ImportContent, the_lemmas}
+use Rattle.wesl_tree_syntax.specs.declared.import.ImportContent.{ImportContent, map-ImportContent}
 use Rattle.wesl_tree_syntax.specs.declared.import.ImportContent as made
 use Rattle.wesl_tree_syntax.specs.declared.import.ImportContent.TheOpen.{ImportContent-F}
-use Rattle.wesl_tree_syntax.specs.declared.import.ImportContent.TheFolds.{ind-ImportContent, fold-roll-ImportContent, fold_out-Import}
+use Rattle.wesl_tree_syntax.specs.declared.import.ImportContent.TheFolds.{ind-ImportContent, fold-roll-ImportContent}
 use Rattle.wesl_tree_syntax.specs.declared.import.ImportStatement.{ImportStatement}
 use Rattle.wesl_tree_syntax.specs.declared.import.Import.{Import, out-Import}
 use Rattle.wesl_text_tokens.specs.declared.symbol.Symbol.TheVariants as is
@@ -29,6 +28,7 @@ use Rattle.wesl_text_print_statements.specs.Parts.{attributes_slots, diagnosed_r
 use Rattle.wesl_text_print_statements.proofs.Rows.{option_then}
 use Rattle.wesl_text_print_statements.proofs.Variables.{ending}
 use Rattle.wesl_text_print_unit.specs.Units.{import_beginning_slots, import_path_row, renamed_row}
+use Rattle.wesl_tree_syntax.proofs.Views.{view_collection, view_entry, view_item}
 
 -- ---- paths
 
@@ -47,30 +47,21 @@ path_printed p = provided_both (is_origin true p.origin) (are_names p.components
 
 -- ---- entries
 
-view-item : (i : ImportItem) → content_view (made.Item i) ≡ item_view i
-view-item i = search (rules, the_lemmas)
-
-view-collection : (es : Vec Import Global) → content_view (made.Collection es) ≡ branch import_collection (listed entry_view list es ∷ [])
-view-collection es = search (rules, the_lemmas, map-map)
-
-view-entry : (e : Import) → entry_view e ≡ branch import_entry (names_tree (out-Import e).path ∷ content_view (out-Import e).content ∷ [])
-view-entry e = fold_out-Import Tree Tree content_step entry_step e
-
 module _ (names : List Text) where
   abbrev pub content : ImportContent → Slots
   content c = slots_in names a_content (content_view c)
 
   pub item_in : (c : ImportContent) (i : ImportItem) → c ≡ made.Item i → slots_in names a_content (item_view i) ≡ content c
-  item_in c i is = ap (slots_in names a_content) (sym (view-item i)) ∙ ap content (sym is)
+  item_in c i is = ap (slots_in names a_content) (sym (view_item i)) ∙ ap content (sym is)
 
   pub collection_in : (c : ImportContent) (es : Vec Import Global) → c ≡ made.Collection es → slots_in names a_content (branch import_collection (listed entry_view list es ∷ [])) ≡ content c
-  collection_in c es is = ap (slots_in names a_content) (sym (view-collection es)) ∙ ap content (sym is)
+  collection_in c es is = ap (slots_in names a_content) (sym (view_collection es)) ∙ ap content (sym is)
 
   abbrev steps_of : Import → Slots
   steps_of e = leaf_slots steps (texts (texts_of (out-Import e).path)) end
 
   pub entry_printed : (e : Import) → followed (steps_of e) (followed (content (out-Import e).content) (Some [])) ≡ slots_in names an_entry (entry_view e)
-  entry_printed e = ap (slots_in names an_entry) (sym (view-entry e))
+  entry_printed e = ap (slots_in names an_entry) (sym (view_entry e))
 
   item_by : (i : Ident) (o : Option Ident) → followed (name_slots (name_in names i.0)) (followed (option_in names renamed_row (ident_tree binder) o) (Some [])) ≡ slots_in names a_content (item_view (record { ident = i; rename = o }))
   item_by i None = refl

@@ -1,18 +1,17 @@
 -- How deep expressions stand in one another, one part after another.
-use Rattle.std.proofs.Common.{◌≡◌, ◌<◌, ◌≤◌, ◌⊎◌, ◌+◌, ◌-◌, inl, inr, ℕ, suc, max, Bool, true, false, ◌&&◌, nat_le, if◌then◌else◌, List, [], ◌∷◌, length, get_or, map, drop, drop-cons, add-one, refl, sym, ap, ◌∙◌, arith}
-use mathlib.Core.List.{map-map}
+use Rattle.std.proofs.Common.{◌≡◌, ◌<◌, ◌≤◌, ◌⊎◌, ◌+◌, ◌-◌, inl, inr, ℕ, suc, max, Bool, true, false, ◌&&◌, nat_le, if◌then◌else◌, List, length, get_or, map, drop, drop-cons, add-one, refl, sym, ap, ◌∙◌, arith}
 use Rattle.std.proofs.lemmas.Bool.{le-leb, lt-leb}
 use Rattle.std.proofs.lemmas.Bool.Decides.{leb_tells}
 use Rattle.std.proofs.lemmas.List.{drop_all}
 use Rattle.std.proofs.Math.Nat.{max-le}
 use Rattle.wesl_tree_names.specs.Path.{Text}
-use Rattle.wesl_tree_syntax.specs.Tree.{Forest, LabelOf, Tree, branch, call, end, list, tree, forest_of, kind, at, ident, text, texts, truth, path, unary, binary, assignment, space, access, respell_forest, respell_label, expression_node, compound, switch_clause, call_statement, import_entry}
-use Rattle.wesl_tree_syntax.specs.View.{argument_step, argument_view, call_step, call_view, expression_step, expression_tree, listed, type_step, type_view}
-use Rattle.wesl_tree_syntax.specs.declared.expression.FunctionCall.{FunctionCall, out-FunctionCall}
+use Rattle.wesl_tree_syntax.specs.Tree.{Forest, LabelOf, Tree, end, tree, forest_of, kind, at, ident, text, texts, truth, path, unary, binary, assignment, space, access, respell_forest, respell_label, expression_node, compound, switch_clause, call_statement, import_entry}
+use Rattle.wesl_tree_syntax.specs.View.{argument_step, argument_view, call_step, expression_step, expression_tree, type_step}
 use Rattle.wesl_tree_syntax.specs.declared.expression.TemplateArg.{TemplateArg, out-TemplateArg}
-use Rattle.wesl_tree_syntax.specs.declared.expression.Expression.TheFolds.{fold_out-FunctionCall, fold_out-TemplateArg}
+use Rattle.wesl_tree_syntax.specs.declared.expression.Expression.TheFolds.{fold_out-TemplateArg}
 use Rattle.wesl_text_form.specs.Says.{is_level, levels}
 use Rattle.wesl_text_read.specs.Depth.{levels_in, levels_of}
+use Rattle.wesl_tree_syntax.proofs.Views.{view_call}
 
 pub alone : (a : ℕ) → max a 0 ≡ a
 alone a = omega arith
@@ -40,9 +39,6 @@ none_within a n none = lt-leb (suc a) n (omega arith)
 pub ruleset steps = (alone, both_within, nothing_more, one_within, none_within)
 
 -- a call: what is called, and its arguments
-pub view_call : (c : FunctionCall) → call_view c ≡ branch call (type_view (out-FunctionCall c).ty ∷ listed expression_tree list (out-FunctionCall c).arguments ∷ [])
-view_call c = fold_out-FunctionCall Tree Tree Tree Tree expression_step call_step argument_step type_step c ∙ simp map-map
-
 -- a template argument has the levels of its expression
 pub argument_levels : (a : TemplateArg) → levels_in (argument_view a) ≡ levels_in (expression_tree (out-TemplateArg a).expression)
 argument_levels a = ap levels_in (fold_out-TemplateArg Tree Tree Tree Tree expression_step call_step argument_step type_step a) ∙ alone _

@@ -34,8 +34,9 @@ use Rattle.wesl_text_read.proofs.Deep.{levels_spelled}
 use Rattle.wesl_text_read.proofs.Leading.{built, next, nothing_there, seen, stay, under}
 use Rattle.wesl_text_read.proofs.Levels.{after-one, bare-operand, one-level, prefixed-operand, then-one}
 use Rattle.wesl_text_read.proofs.Paths.{sign-is}
-use Rattle.wesl_text_read.proofs.Trees.{made_argument, placed-tree}
+use Rattle.wesl_text_read.proofs.Trees.{placed-tree}
 use Rattle.wesl_text_read.proofs.Types.{a_template, argument-read, argument_list, behind_path, call-read, call_of, enclosed-read, false-read, number-read, true-read, type-read, type_with, word-read, worded}
+use Rattle.wesl_tree_syntax.proofs.Views.{view_argument_of}
 
 -- what was read is seen as another tree that is equal
 pub viewed : {f : List Text → Read (TreeOf Text)} {s e : Reader} (t u : Tree) → t ≡ u → Leads f (λ ns. Some (respell (name_in ns) t, ahead e)) s e → Leads f (λ ns. Some (respell (name_in ns) u, ahead e)) s e
@@ -306,4 +307,4 @@ pub argument_more : {s m n k e : Reader} (goes_on more : Bool) (room less : ℕ)
     → Lists argument_view an_argument more less items_then s e
 argument_more {s} {m} {n} {k} {e} goes_on more room less items items_then x on same inv read put kept comma =
     list_more argument_view an_argument goes_on more room less items items_then (roll-TemplateArg (record { expression = x })) on same inv
-    (viewed (branch template_argument (expression_tree x ∷ [])) (argument_view (roll-TemplateArg (record { expression = x }))) (sym (made_argument x)) (argument_read (expression_tree x) read)) put kept comma
+    (viewed (branch template_argument (expression_tree x ∷ [])) (argument_view (roll-TemplateArg (record { expression = x }))) (sym (view_argument_of x)) (argument_read (expression_tree x) read)) put kept comma

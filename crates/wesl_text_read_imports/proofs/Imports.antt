@@ -1,12 +1,11 @@
 -- Imports, part by part.
 use Rattle.std.proofs.Common.{◌≡◌, ℕ, zero, suc, List, [], ◌∷◌, Bool, true, false, ◌||◌, if◌then◌else◌, Some, None, String, Vec, Global, codes, refl, sym, ap, ◌∙◌, subst, rules}
-use mathlib.Core.List.{map-map}
 use Rattle.wesl_tree_names.specs.Path.{Text}
 use Rattle.wesl_tree_syntax.specs.Tree.{Tree, TreeOf, absent, before, binder, branch, end, ident, import_collection, import_entry, import_item, kind, leaf as tree_leaf, list, present, respell, texts, word}
 use Rattle.wesl_tree_syntax.specs.Unit.{name_in}
-use Rattle.wesl_tree_syntax.specs.View.{content_view, entry_view, listed, names_tree}
-use Rattle.wesl_tree_syntax.specs.declared.import.ImportContent.{ImportContent, the_lemmas, Collection}
-use Rattle.wesl_tree_syntax.specs.declared.import.Import.{Import, roll-Import}
+use Rattle.wesl_tree_syntax.specs.View.{content_view, entry_view, names_tree}
+use Rattle.wesl_tree_syntax.specs.declared.import.ImportContent.{ImportContent, the_lemmas}
+use Rattle.wesl_tree_syntax.specs.declared.import.Import.{roll-Import}
 use Rattle.wesl_text_tokens.specs.declared.symbol.Symbol.TheVariants as is
 use Rattle.wesl_text_tokens.specs.Tokens.{Token, name, symbol}
 use Rattle.wesl_text_form.specs.Slots.{behind_token, same_token}
@@ -27,9 +26,6 @@ use Rattle.wesl_text_read_imports.proofs.Closed.{Closes}
 use Rattle.wesl_text_read_imports.proofs.Parts.{RowReads, node_reads, reads_end, reads_leaf, reads_own, reads_says}
 
 -- ---- trees
-
-pub view-collection : (v : Vec Import Global) → content_view (Collection v) ≡ branch import_collection (listed entry_view list v ∷ [])
-view-collection v = search (rules, the_lemmas, map-map)
 
 pub made_entry : (p : Vec (String Global) Global) (c : ImportContent) → entry_view (roll-Import (record { path = p; content = c })) ≡ branch import_entry (names_tree p ∷ content_view c ∷ [])
 made_entry p c = search (rules, the_lemmas)

@@ -1,32 +1,23 @@
 -- The tree of a node, level by level.
-use Rattle.std.proofs.Common.{◌≡◌, ℕ, [], ◌∷◌, ◌∙◌, ap, ◌&&◌, rules, Option}
-use mathlib.Core.List.{map-map}
-use Rattle.wesl_tree_syntax.specs.Tree.{branch, call, list, compound, statements, Tree, tree_below, if_statement, switch, clauses}
-use Rattle.wesl_tree_syntax.specs.View.{argument_view, entry_view, content_view, content_step, entry_step, call_view, type_view, expression_tree, listed, attributes_tree, expression_step, call_step, argument_step, type_step, compound_view, statement_tree, statement_step, compound_step, continuing_step, else_step, else_if_step, if_step, clause_step, statement_view, if_view, else_if_view, else_view, clause_view, optional}
-use Rattle.wesl_tree_syntax.specs.declared.statement.CompoundStatement.{CompoundStatement, out-CompoundStatement}
-use Rattle.wesl_tree_syntax.specs.declared.statement.Statement.TheFolds.{fold_out-CompoundStatement}
+use Rattle.std.proofs.Common.{◌≡◌, ℕ, ◌∙◌, ap, ◌&&◌, Option}
+use Rattle.wesl_tree_syntax.specs.Tree.{list, Tree, tree_below, clauses}
+use Rattle.wesl_tree_syntax.specs.View.{argument_view, entry_view, content_view, content_step, entry_step, expression_tree, listed, attributes_tree, expression_step, call_step, argument_step, type_step, statement_view, if_view, else_if_view, else_view, clause_view, optional}
 use Rattle.std.specs.Global.{Vec}
 use Rattle.wesl_tree_syntax.specs.declared.attribute.Attribute.{Attribute}
 use Rattle.wesl_tree_syntax.specs.declared.statement.ElseClause.{ElseClause}
 use Rattle.wesl_tree_syntax.specs.declared.statement.ElseIfClause.{ElseIfClause}
 use Rattle.wesl_tree_syntax.specs.declared.statement.IfClause.{IfClause}
 use Rattle.wesl_tree_syntax.specs.declared.statement.SwitchClause.{SwitchClause}
-use Rattle.wesl_tree_syntax.specs.declared.statement.Statement.{Statement, the_lemmas}
+use Rattle.wesl_tree_syntax.specs.declared.statement.Statement.{Statement}
 use Rattle.wesl_tree_syntax.specs.declared.statement.Statement as made
 use Rattle.wesl_tree_syntax.specs.declared.span.Spanned.{Spanned}
 use Rattle.wesl_tree_syntax.specs.declared.expression.Expression.{Expression}
-use Rattle.wesl_tree_syntax.specs.declared.expression.FunctionCall.{FunctionCall, out-FunctionCall}
 use Rattle.wesl_tree_syntax.specs.declared.expression.TemplateArg.{TemplateArg, out-TemplateArg}
-use Rattle.wesl_tree_syntax.specs.declared.expression.Expression.TheFolds.{fold_out-FunctionCall, fold_out-TemplateArg}
+use Rattle.wesl_tree_syntax.specs.declared.expression.Expression.TheFolds.{fold_out-TemplateArg}
 use Rattle.wesl_tree_syntax.specs.declared.import.Import.{Import, out-Import}
 use Rattle.wesl_tree_syntax.specs.declared.import.ImportContent.TheFolds.{fold_out-Import}
 use Rattle.wesl_tree_bounds.proofs.Below.{and_true, four}
-
-pub view_call : (c : FunctionCall) → call_view c ≡ branch call (type_view (out-FunctionCall c).ty ∷ listed expression_tree list (out-FunctionCall c).arguments ∷ [])
-view_call c = fold_out-FunctionCall Tree Tree Tree Tree expression_step call_step argument_step type_step c ∙ simp map-map
-
-pub view_compound : (b : CompoundStatement) → compound_view b ≡ branch compound (attributes_tree (out-CompoundStatement b).attributes ∷ listed statement_tree statements (out-CompoundStatement b).statements ∷ [])
-view_compound b = fold_out-CompoundStatement Tree Tree Tree Tree Tree Tree Tree statement_step compound_step continuing_step else_step else_if_step if_step clause_step b ∙ simp map-map
+use Rattle.wesl_tree_syntax.proofs.Views.{view_if, view_switch}
 
 -- an argument lies below where its expression does
 pub argument_below : (n : ℕ) (a : TemplateArg) → tree_below n (argument_view a) ≡ tree_below n (expression_tree (out-TemplateArg a).expression)
@@ -35,12 +26,6 @@ argument_below n a = ap (tree_below n) (fold_out-TemplateArg Tree Tree Tree Tree
 -- an entry lies below where its content does
 pub entry_below : (n : ℕ) (i : Import) → tree_below n (entry_view i) ≡ tree_below n (content_view (out-Import i).content)
 entry_below n i = ap (tree_below n) (fold_out-Import Tree Tree content_step entry_step i) ∙ and_true _
-
-view_if : (a : Vec (Spanned Attribute)) (i : IfClause) (es : Vec ElseIfClause) (e : Option ElseClause) → statement_view (made.If a i es e) ≡ branch if_statement (attributes_tree a ∷ if_view i ∷ listed else_if_view list es ∷ optional else_view e ∷ [])
-view_if a i es e = search (rules, the_lemmas, map-map)
-
-view_switch : (a : Vec (Spanned Attribute)) (e : Spanned Expression) (b : Vec (Spanned Attribute)) (cs : Vec SwitchClause) → statement_view (made.Switch a e b cs) ≡ branch switch (attributes_tree a ∷ expression_tree e ∷ attributes_tree b ∷ listed clause_view clauses cs ∷ [])
-view_switch a e b cs = search (rules, the_lemmas, map-map)
 
 -- the tests of a statement with `if`, and of one with `switch`
 pub if_below : (n : ℕ) (s : Statement) (a : Vec (Spanned Attribute)) (i : IfClause) (es : Vec ElseIfClause) (e : Option ElseClause) → s ≡ made.If a i es e

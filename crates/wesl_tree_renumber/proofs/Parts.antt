@@ -12,7 +12,6 @@ use Rattle.wesl_tree_syntax.specs.declared.expression.Literal.TheVariants as lit
 use Rattle.wesl_tree_syntax.specs.declared.expression.TemplateArg.{TemplateArg, out-TemplateArg, roll-TemplateArg}
 use Rattle.wesl_tree_syntax.specs.declared.import.Import.{Import, out-Import, roll-Import}
 use Rattle.wesl_tree_syntax.specs.declared.import.ImportContent.{ImportContent}
-use Rattle.wesl_tree_renumber.proofs.Views.{view_argument, view_argument_of, view_entry, view_entry_of}
 use Rattle.wesl_tree_syntax.specs.declared.declaration.DeclarationKind.{DeclarationKind}
 use Rattle.wesl_tree_syntax.specs.declared.declaration.DeclarationKind.TheVariants as kinds
 use Rattle.wesl_tree_syntax.specs.declared.expression.BinaryOperator.{BinaryOperator}
@@ -23,6 +22,7 @@ use Rattle.wesl_tree_copies.specs.Renumbered.{after, after_tree, renumbered, ren
 use Rattle.wesl_tree_copies.proofs.Parts.{labelled}
 use Rattle.wesl_tree_renumber.specs.Renumbers.{Renumbered}
 use Rattle.wesl_tree_renumber.specs.declared.renumbering.Renumbering.{Renumbering}
+use Rattle.wesl_tree_syntax.proofs.Views.{view_argument, view_argument_of, view_entry, view_entry_of}
 
 -- some trees, one after the other
 pub record RenumberedAll (old new : Renumbering) (originals results : List Tree) : Type 0 where

@@ -5,4 +5,3 @@ mod Respelled
 mod Shown
 mod UnlikeExpressions
 mod UnlikeStatements
-mod Views

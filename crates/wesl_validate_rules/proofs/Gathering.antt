@@ -1,21 +1,17 @@
 -- What is gathered are the names that are bound.
-use Rattle.std.proofs.Common.{◌≡◌, ℕ, Bool, false, List, [], ◌∷◌, ◌++◌, map, refl, sym, ap, ◌∙◌, append_assoc, ◌+◌, ◌<◌, ◌≤◌, length, get_or, drop, drop-cons, add-one, rules, Vec, Global, take, zero, suc, arith}
+use Rattle.std.proofs.Common.{◌≡◌, ℕ, Bool, false, List, [], ◌∷◌, ◌++◌, map, refl, sym, ap, ◌∙◌, append_assoc, ◌+◌, ◌<◌, ◌≤◌, length, get_or, drop, drop-cons, add-one, Vec, Global, take, zero, suc, arith}
 use Rattle.std.specs.Prelude.{flat_map, if◌then◌else◌, Result, Ok, Err, OnOk}
-use mathlib.Core.List.{map-map}
 use Rattle.std.proofs.lemmas.List.{append-nil, drop_all}
-use Rattle.wesl_tree_syntax.specs.Tree.{Tree, Forest, end, tree, kind, at, ident, text, texts, truth, unary, binary, assignment, space, access, path, binder, reference, word, branch, before, forest_of, import_entry, import_node, declaration_node, import_collection, list}
-use Rattle.wesl_tree_syntax.specs.View.{entry_view, content_view, content_step, entry_step, names_tree, import_view, global_view, placed, listed}
+use Rattle.wesl_tree_syntax.specs.Tree.{Forest, end, tree, kind, at, ident, text, texts, truth, unary, binary, assignment, space, access, path, binder, reference, word, before, forest_of, import_node, declaration_node}
+use Rattle.wesl_tree_syntax.specs.View.{entry_view, content_view, import_view, global_view, placed}
 use Rattle.wesl_tree_syntax.specs.declared.span.Spanned.{Spanned}
 use Rattle.wesl_tree_syntax.specs.declared.import.Import.{Import, out-Import}
 use Rattle.wesl_tree_syntax.specs.declared.import.ImportStatement.{ImportStatement}
-use Rattle.wesl_tree_syntax.specs.declared.import.ImportContent.{ImportContent, the_lemmas, Collection}
-use Rattle.wesl_tree_syntax.specs.declared.import.ImportContent.TheFolds.{fold_out-Import}
+use Rattle.wesl_tree_syntax.specs.declared.import.ImportContent.{ImportContent, Collection}
 use Rattle.wesl_tree_syntax.specs.declared.declaration.GlobalDeclaration.{GlobalDeclaration}
 use Rattle.wesl_validate_rules.specs.Names.{binders_in, imported_in, declared_in, imported, declared}
 use Rattle.wesl_validate_rules.specs.Gathered.{gathered}
-
-pub view_entry : (i : Import) → entry_view i ≡ branch import_entry (names_tree (out-Import i).path ∷ content_view (out-Import i).content ∷ [])
-view_entry i = fold_out-Import Tree Tree content_step entry_step i
+use Rattle.wesl_tree_syntax.proofs.Views.{view_collection, view_entry}
 
 -- of a tree whose label is no name, and of those after it
 inner : (found : List ℕ) (children others : Forest) → ((ns : List ℕ) → gathered ns children ≡ ns ++ binders_in children) → ((ns : List ℕ) → gathered ns others ≡ ns ++ binders_in others) → gathered (gathered found children) others ≡ found ++ (binders_in children ++ binders_in others)
@@ -71,9 +67,6 @@ entry_next first found now is i x h e added so =
   where
     step : entries_gathered found (drop i is) ≡ entries_gathered (gathered found (before (entry_view x) end)) (drop (i + 1) is)
     step = rw (drop-cons is i x h, ← e, add-one) refl
-
-view_collection : (es : Vec Import Global) → content_view (Collection es) ≡ branch import_collection (listed entry_view list es ∷ [])
-view_collection es = search (rules, the_lemmas, map-map)
 
 pub entries_all : (first found : List ℕ) (content : ImportContent) (es : Vec Import Global) (is : List Import) (i : ℕ) → content ≡ Collection es → is ≡ es.items → length is ≤ i
     → entries_gathered first is ≡ entries_gathered found (drop i is) → found ≡ gathered first (before (content_view content) end)

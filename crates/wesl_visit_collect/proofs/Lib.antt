@@ -1,7 +1,6 @@
 pub mod Labels
 pub mod Adds
 pub mod Seen
-pub mod Expressions
 pub mod Statements
 pub mod Parts
 pub mod Words

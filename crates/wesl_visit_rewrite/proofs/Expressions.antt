@@ -1,15 +1,9 @@
 -- The trees of expressions and types, by the trees of their parts.
-use Rattle.std.proofs.Common.{◌≡◌, [], ◌∷◌, refl, sym, ap, ◌∙◌, subst, List, length, Bool, false, ◌&&◌, not, rules, String, Global, Option, None, Some, Vec, true}
-use mathlib.Core.List.{map-map}
-use Rattle.std.specs.Box.{box_value}
+use Rattle.std.proofs.Common.{◌≡◌, [], ◌∷◌, refl, sym, ap, ◌∙◌, subst, List, length, Bool, false, ◌&&◌, not, Global, Option, None, Some, Vec, true}
 use Rattle.std.specs.Global.{Box}
 use Rattle.wesl_tree_names.specs.declared.path.ModulePath.{ModulePath}
-use Rattle.wesl_tree_names.specs.declared.names.Ident.{Ident}
-use Rattle.wesl_tree_syntax.specs.Tree.{absent, before, end, Forest, leaf, present, tree, binary, branch, call, call_expression, forest_of, indexing, kind, list, literal, named_component, parenthesized, reference, template_argument, Tree, type_expression, type_or_identifier, unary}
-use Rattle.wesl_tree_syntax.specs.View.{argument_step, argument_view, boxed_path, call_step, call_view, expression_step, expression_tree, expression_view, ident_tree, listed, literal_tree, optional, text_tree, type_step, type_view}
-use Rattle.wesl_tree_syntax.specs.declared.span.Spanned.{Spanned}
-use Rattle.wesl_tree_syntax.specs.declared.expression.BinaryOperator.{BinaryOperator}
-use Rattle.wesl_tree_syntax.specs.declared.expression.UnaryOperator.{UnaryOperator}
+use Rattle.wesl_tree_syntax.specs.Tree.{absent, before, end, Forest, leaf, present, tree, branch, kind, list, literal, reference, Tree, type_expression}
+use Rattle.wesl_tree_syntax.specs.View.{argument_view, boxed_path, ident_tree, listed, literal_tree, optional, type_view}
 use Rattle.wesl_tree_syntax.specs.declared.expression.Literal.{Literal}
 use Rattle.wesl_tree_syntax.specs.declared.expression.Literal.TheVariants as literals
 use Rattle.std.specs.Vec.{with_items}
@@ -21,57 +15,10 @@ use Rattle.wesl_visit_collect.specs.Held.{all_of, hollow_label}
 use Rattle.wesl_visit_rewrite.proofs.Labels.{words}
 use Rattle.wesl_visit_rewrite.proofs.Steps.{beside, forest_by, inside, moved, taken_else, unmoved, went_list}
 use Rattle.wesl_visit_rewrite.proofs.Views.{type_label}
-use Rattle.wesl_tree_syntax.specs.declared.expression.Expression.{Expression, the_lemmas}
-use Rattle.wesl_tree_syntax.specs.declared.expression.Expression as made
 use Rattle.wesl_tree_syntax.specs.declared.expression.Expression.TheViews.{roll-out-TypeExpression}
-use Rattle.wesl_tree_syntax.specs.declared.expression.Expression.TheFolds.{fold_out-FunctionCall, fold_out-TemplateArg, fold-roll-FunctionCall, fold-roll-TemplateArg, fold-roll-TypeExpression}
-use Rattle.wesl_tree_syntax.specs.declared.expression.FunctionCall.{FunctionCall, out-FunctionCall, roll-FunctionCall}
-use Rattle.wesl_tree_syntax.specs.declared.expression.TemplateArg.{TemplateArg, out-TemplateArg, roll-TemplateArg}
+use Rattle.wesl_tree_syntax.specs.declared.expression.TemplateArg.{TemplateArg}
 use Rattle.wesl_tree_syntax.specs.declared.expression.TypeExpression.{TypeExpression, out-TypeExpression, roll-TypeExpression}
-
-pub view_literal : (l : Literal) → expression_view (made.Literal l) ≡ branch literal (literal_tree l ∷ [])
-view_literal l = search (rules, the_lemmas)
-
-pub view_parenthesized : (e : Box (Spanned Expression)) → expression_view (made.Parenthesized e) ≡ branch parenthesized (expression_tree (box_value e) ∷ [])
-view_parenthesized e = search (rules, the_lemmas)
-
-pub view_named : (b : Box (Spanned Expression)) (n : String Global) → expression_view (made.NamedComponent b n) ≡ branch named_component (expression_tree (box_value b) ∷ text_tree n ∷ [])
-view_named b n = search (rules, the_lemmas)
-
-pub view_indexing : (b i : Box (Spanned Expression)) → expression_view (made.Indexing b i) ≡ branch indexing (expression_tree (box_value b) ∷ expression_tree (box_value i) ∷ [])
-view_indexing b i = search (rules, the_lemmas)
-
-pub view_unary : (o : UnaryOperator) (e : Box (Spanned Expression)) → expression_view (made.Unary o e) ≡ record { label = unary o; children = forest_of (expression_tree (box_value e) ∷ []) }
-view_unary o e = search (rules, the_lemmas)
-
-pub view_binary : (o : BinaryOperator) (l r : Box (Spanned Expression)) → expression_view (made.Binary o l r) ≡ record { label = binary o; children = forest_of (expression_tree (box_value l) ∷ expression_tree (box_value r) ∷ []) }
-view_binary o l r = search (rules, the_lemmas)
-
-pub view_call_expression : (c : FunctionCall) → expression_view (made.FunctionCall c) ≡ branch call_expression (call_view c ∷ [])
-view_call_expression c = search (rules, the_lemmas)
-
-pub view_name : (t : TypeExpression) → expression_view (made.TypeOrIdentifier t) ≡ branch type_or_identifier (type_view t ∷ [])
-view_name t = search (rules, the_lemmas)
-
-pub view_call : (c : FunctionCall) → call_view c ≡ branch call (type_view (out-FunctionCall c).ty ∷ listed expression_tree list (out-FunctionCall c).arguments ∷ [])
-view_call c = fold_out-FunctionCall Tree Tree Tree Tree expression_step call_step argument_step type_step c ∙ simp map-map
-
-pub view_call_of : (t : TypeExpression) (v : Vec (Spanned Expression) Global) → call_view (roll-FunctionCall (record { ty = t; arguments = v })) ≡ branch call (type_view t ∷ listed expression_tree list v ∷ [])
-view_call_of t v = fold-roll-FunctionCall Tree Tree Tree Tree expression_step call_step argument_step type_step (record { ty = t; arguments = v }) ∙ simp map-map
-
-pub view_argument : (a : TemplateArg) → argument_view a ≡ branch template_argument (expression_tree (out-TemplateArg a).expression ∷ [])
-view_argument a = fold_out-TemplateArg Tree Tree Tree Tree expression_step call_step argument_step type_step a
-
-pub view_argument_of : (e : Spanned Expression) → argument_view (roll-TemplateArg (record { expression = e })) ≡ branch template_argument (expression_tree e ∷ [])
-view_argument_of e = fold-roll-TemplateArg Tree Tree Tree Tree expression_step call_step argument_step type_step (record { expression = e })
-
-pub view_type_of : (p : Option (Box ModulePath)) (i : Ident) (o : Option (Vec TemplateArg Global)) → type_view (roll-TypeExpression (record { path = p; ident = i; template_args = o }))
-    ≡ branch type_expression (optional boxed_path p ∷ ident_tree reference i ∷ optional (listed argument_view list) o ∷ [])
-view_type_of p i None = fold-roll-TypeExpression Tree Tree Tree Tree expression_step call_step argument_step type_step (record { path = p; ident = i; template_args = None })
-view_type_of p i (Some v) = fold-roll-TypeExpression Tree Tree Tree Tree expression_step call_step argument_step type_step (record { path = p; ident = i; template_args = Some v }) ∙ simp map-map
-
-pub view_type : (t : TypeExpression) → type_view t ≡ branch type_expression (optional boxed_path (out-TypeExpression t).path ∷ ident_tree reference (out-TypeExpression t).ident ∷ optional (listed argument_view list) (out-TypeExpression t).template_args ∷ [])
-view_type t = ap type_view (sym (roll-out-TypeExpression t)) ∙ view_type_of (out-TypeExpression t).path (out-TypeExpression t).ident (out-TypeExpression t).template_args
+use Rattle.wesl_tree_syntax.proofs.Views.{view_type, view_type_of}
 
 pub literal_hollow : (l : Literal) → all_of hollow_label (before (branch literal (literal_tree l ∷ [])) end) ≡ true
 literal_hollow (literals.Bool b) = refl

@@ -1,15 +1,10 @@
 -- The trees of statements and of the clauses in them, by the trees of their parts.
 use Rattle.std.proofs.Common.{◌≡◌, [], ◌∷◌, sym, ap, ◌∙◌, rules, Global, Option, Vec}
 use mathlib.Core.List.{map-map}
-use Rattle.std.specs.Box.{box_value}
-use Rattle.std.specs.Global.{Box}
-use Rattle.wesl_tree_syntax.specs.Tree.{assignment, branch, break, call_statement, clauses, compound, compound_statement, continue, continuing, decrement, discard, else_clause, else_if_clause, for_loop, forest_of, if_clause, if_statement, increment, list, loop, return, statements, switch, switch_clause, Tree, void, while_loop}
-use Rattle.wesl_tree_syntax.specs.View.{assert_view, attributes_tree, break_if_view, call_view, clause_step, clause_view, compound_step, compound_view, continuing_step, continuing_view, declaration_view, else_if_step, else_if_view, else_step, else_view, expression_tree, if_step, if_view, listed, optional, selector_view, statement_step, statement_tree, statement_view}
+use Rattle.wesl_tree_syntax.specs.Tree.{assignment, branch, compound, continuing, else_clause, else_if_clause, forest_of, if_clause, list, statements, switch_clause, Tree}
+use Rattle.wesl_tree_syntax.specs.View.{attributes_tree, break_if_view, clause_step, clause_view, compound_step, compound_view, continuing_step, continuing_view, else_if_step, else_if_view, else_step, else_view, expression_tree, if_step, if_view, listed, optional, selector_view, statement_step, statement_tree, statement_view}
 use Rattle.wesl_tree_syntax.specs.declared.attribute.Attribute.{Attribute}
-use Rattle.wesl_tree_syntax.specs.declared.declaration.ConstAssert.{ConstAssert}
-use Rattle.wesl_tree_syntax.specs.declared.declaration.Declaration.{Declaration}
 use Rattle.wesl_tree_syntax.specs.declared.expression.Expression.{Expression}
-use Rattle.wesl_tree_syntax.specs.declared.expression.FunctionCall.{FunctionCall}
 use Rattle.wesl_tree_syntax.specs.declared.span.Spanned.{Spanned}
 use Rattle.wesl_tree_syntax.specs.declared.statement.AssignmentOperator.{AssignmentOperator}
 use Rattle.wesl_tree_syntax.specs.declared.statement.BreakIfStatement.{BreakIfStatement}
@@ -25,56 +20,8 @@ use Rattle.wesl_tree_syntax.specs.declared.statement.Statement.TheFolds.{fold-ro
 use Rattle.wesl_tree_syntax.specs.declared.statement.Statement as made
 use Rattle.wesl_tree_syntax.specs.declared.statement.Statement.TheViews.{roll-out-CompoundStatement, roll-out-ContinuingStatement, roll-out-ElseClause, roll-out-ElseIfClause, roll-out-IfClause, roll-out-SwitchClause}
 
-pub view_Void : statement_view made.Void ≡ branch void []
-view_Void = search (rules, the_lemmas)
-
-pub view_Compound : (b : CompoundStatement) → statement_view (made.Compound b) ≡ branch compound_statement (compound_view b ∷ [])
-view_Compound b = search (rules, the_lemmas)
-
 pub view_Assignment : (a : Vec (Spanned Attribute) Global) (o : AssignmentOperator) (l : Spanned Expression) (r : Spanned Expression) → statement_view (made.Assignment a o l r) ≡ record { label = assignment o; children = forest_of (attributes_tree a ∷ expression_tree l ∷ expression_tree r ∷ []) }
 view_Assignment a o l r = search (rules, the_lemmas)
-
-pub view_Increment : (a : Vec (Spanned Attribute) Global) (e : Spanned Expression) → statement_view (made.Increment a e) ≡ branch increment (attributes_tree a ∷ expression_tree e ∷ [])
-view_Increment a e = search (rules, the_lemmas)
-
-pub view_Decrement : (a : Vec (Spanned Attribute) Global) (e : Spanned Expression) → statement_view (made.Decrement a e) ≡ branch decrement (attributes_tree a ∷ expression_tree e ∷ [])
-view_Decrement a e = search (rules, the_lemmas)
-
-pub view_If : (a : Vec (Spanned Attribute) Global) (i : IfClause) (es : Vec ElseIfClause Global) (e : Option ElseClause) → statement_view (made.If a i es e) ≡ branch if_statement (attributes_tree a ∷ if_view i ∷ listed else_if_view list es ∷ optional else_view e ∷ [])
-view_If a i es e = search (rules, the_lemmas, map-map)
-
-pub view_Switch : (a : Vec (Spanned Attribute) Global) (e : Spanned Expression) (b : Vec (Spanned Attribute) Global) (cs : Vec SwitchClause Global) → statement_view (made.Switch a e b cs) ≡ branch switch (attributes_tree a ∷ expression_tree e ∷ attributes_tree b ∷ listed clause_view clauses cs ∷ [])
-view_Switch a e b cs = search (rules, the_lemmas, map-map)
-
-pub view_Loop : (a : Vec (Spanned Attribute) Global) (b : CompoundStatement) (c : Option ContinuingStatement) → statement_view (made.Loop a b c) ≡ branch loop (attributes_tree a ∷ compound_view b ∷ optional continuing_view c ∷ [])
-view_Loop a b c = search (rules, the_lemmas)
-
-pub view_For : (a : Vec (Spanned Attribute) Global) (i : Option (Box (Spanned Statement))) (c : Option (Spanned Expression)) (u : Option (Box (Spanned Statement))) (b : CompoundStatement) → statement_view (made.For a i c u b) ≡ branch for_loop (attributes_tree a ∷ optional (λ s. statement_tree (box_value s)) i ∷ optional expression_tree c ∷ optional (λ s. statement_tree (box_value s)) u ∷ compound_view b ∷ [])
-view_For a i c u b = search (rules, the_lemmas)
-
-pub view_While : (a : Vec (Spanned Attribute) Global) (e : Spanned Expression) (b : CompoundStatement) → statement_view (made.While a e b) ≡ branch while_loop (attributes_tree a ∷ expression_tree e ∷ compound_view b ∷ [])
-view_While a e b = search (rules, the_lemmas)
-
-pub view_Break : (a : Vec (Spanned Attribute) Global) → statement_view (made.Break a) ≡ branch break (attributes_tree a ∷ [])
-view_Break a = search (rules, the_lemmas)
-
-pub view_Continue : (a : Vec (Spanned Attribute) Global) → statement_view (made.Continue a) ≡ branch continue (attributes_tree a ∷ [])
-view_Continue a = search (rules, the_lemmas)
-
-pub view_Return : (a : Vec (Spanned Attribute) Global) (e : Option (Spanned Expression)) → statement_view (made.Return a e) ≡ branch return (attributes_tree a ∷ optional expression_tree e ∷ [])
-view_Return a e = search (rules, the_lemmas)
-
-pub view_Discard : (a : Vec (Spanned Attribute) Global) → statement_view (made.Discard a) ≡ branch discard (attributes_tree a ∷ [])
-view_Discard a = search (rules, the_lemmas)
-
-pub view_FunctionCall : (a : Vec (Spanned Attribute) Global) (c : FunctionCall) → statement_view (made.FunctionCall a c) ≡ branch call_statement (attributes_tree a ∷ call_view c ∷ [])
-view_FunctionCall a c = search (rules, the_lemmas)
-
-pub view_ConstAssert : (c : ConstAssert) → statement_view (made.ConstAssert c) ≡ assert_view c
-view_ConstAssert c = search (rules, the_lemmas)
-
-pub view_Declaration : (d : Declaration) → statement_view (made.Declaration d) ≡ declaration_view d
-view_Declaration d = search (rules, the_lemmas)
 
 pub CompoundStatement_of : (a : Vec (Spanned Attribute) Global) (v : Vec (Spanned Statement) Global) → compound_view (roll-CompoundStatement (record { attributes = a; statements = v })) ≡ branch compound (attributes_tree a ∷ listed statement_tree statements v ∷ [])
 CompoundStatement_of a v = fold-roll-CompoundStatement Tree Tree Tree Tree Tree Tree Tree statement_step compound_step continuing_step else_step else_if_step if_step clause_step (record { attributes = a; statements = v }) ∙ simp map-map

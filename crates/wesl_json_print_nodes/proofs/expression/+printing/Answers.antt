@@ -8,7 +8,6 @@ use Rattle.wesl_tree_syntax.specs.View.{argument_view, boxed_path, expression_tr
 use Rattle.wesl_json_form.specs.Schema.{a_path, a_template_argument, a_type, an_expression, leaf, node}
 use Rattle.wesl_json_words.proofs.Lists.{placed-value}
 use Rattle.wesl_json_words.proofs.Within.{written-argument}
-use Rattle.wesl_json_words.proofs.Expressions.{argument-parts}
 use Rattle.wesl_json_words.specs.Values.{value_in}
 use Rattle.wesl_tree_syntax.specs.declared.expression.TemplateArg.{out-TemplateArg}
 use Rattle.wesl_json_print_nodes.specs.Events.{events}
@@ -17,6 +16,7 @@ use Rattle.wesl_json_print_nodes.proofs.Parts.{option_added, span_added}
 use Rattle.wesl_json_print_nodes.proofs.Lists.{all_nodes_before, no_nodes, no_nodes_before, one_node_more, some_nodes}
 use Rattle.wesl_json_print_nodes.proofs.Expressions.{argued_type, binary_printed, call_printed, component_printed, indexing_printed, literal_printed, nowhere, parenthesized_printed, plain_type, type_printed, unary_printed}
 use Rattle.wesl_json_print_nodes.proofs.expression.+printing.Goals as goal
+use Rattle.wesl_tree_syntax.proofs.Views.{view_argument}
 
 pub print_expression-returns-in-Parenthesized : goal.print_expression-returns-in-Parenthesized
 print_expression-returns-in-Parenthesized g t c =
@@ -96,7 +96,7 @@ print_type_arguments-loop-argument-init g t c =
 pub print_type_arguments-loop-argument-preserved : goal.print_type_arguments-loop-argument-preserved
 print_type_arguments-loop-argument-preserved g t c =
     let l = lawful g.met.S.Sink.none g.met.S.Sink.more in
-    one_node_more c.args.spans c.args.names.now a_template_argument argument_view l c.deref-argument-items.result.now c.loop-argument.argument-index c.argument-item.result _ c.loop-argument-test.true c.argument-item.is (sym (ap (value_in c.args.spans c.args.names.now (node a_template_argument)) (argument-parts c.argument-item.result) ∙ written-argument c.args.spans c.args.names.now (out-TemplateArg c.argument-item.result).expression)) c.loop-argument.invariant c.print_expression.ensures
+    one_node_more c.args.spans c.args.names.now a_template_argument argument_view l c.deref-argument-items.result.now c.loop-argument.argument-index c.argument-item.result _ c.loop-argument-test.true c.argument-item.is (sym (ap (value_in c.args.spans c.args.names.now (node a_template_argument)) (view_argument c.argument-item.result) ∙ written-argument c.args.spans c.args.names.now (out-TemplateArg c.argument-item.result).expression)) c.loop-argument.invariant c.print_expression.ensures
 
 pub print_type_arguments-returns : goal.print_type_arguments-returns
 print_type_arguments-returns g t c =

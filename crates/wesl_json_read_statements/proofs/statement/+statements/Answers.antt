@@ -10,9 +10,10 @@ use Rattle.wesl_json_read.proofs.Worded.{node-place, node-reads, node-span}
 use Rattle.wesl_json_read_statements.specs.Forms.{statement_head, statement_row, statement_text}
 use Rattle.wesl_json_read_statements.proofs.Boxes.{in_box}
 use Rattle.wesl_json_read_statements.proofs.Named.{statement-node}
-use Rattle.wesl_json_read_statements.proofs.Views.{made-block, made-clause, made-continuing, made-elif, made-else, view-block, view-for, view-if, view-loop, view-switch, view-while}
+use Rattle.wesl_json_read_statements.proofs.Views.{view-block, view-if}
 use Rattle.wesl_json_read_statements.proofs.statement.+statements.Goals as goal
 use Rattle.wesl_json_read_statements.proofs.statement.+statements.Goals.{clauses-else-not-is_stopped, clauses-then-not-is_stopped, else_ifs-else-not-is_stopped, else_ifs-then-not-is_stopped, statements-else-not-is_stopped, statements-then-not-is_stopped}
+use Rattle.wesl_tree_syntax.proofs.Views.{view_clause_of, view_compound_of, view_continuing_of, view_else_if_of, view_else_of, view_for, view_loop, view_switch, view_while}
 
 pub body-statements-statements-requires : goal.body-statements-statements-requires
 body-statements-statements-requires t c =
@@ -120,19 +121,19 @@ pub if_statement-returns : goal.if_statement-returns
 if_statement-returns t c = seen_worded (λ h. sym (view-if _ _ _ _ _)) (of_word _ refl c.keys.ensures (many_next refl c.attributes.ensures (inner_next (needs_next refl c.expression_at.ensures (needs_next refl c.body.ensures no_more)) (many_next refl c.else_ifs.ensures (may_next refl c.else_clause.ensures no_more)))))
 
 pub switch_statement-returns : goal.switch_statement-returns
-switch_statement-returns t c = seen_worded (λ h. sym (view-switch _ _ _ _)) (of_word _ refl c.keys.ensures (many_next refl c.attributes.ensures (needs_next refl c.expression_at.ensures (many_next refl c.attributes-2.ensures (many_next refl c.clauses.ensures no_more)))))
+switch_statement-returns t c = seen_worded (λ h. sym (view_switch _ _ _ _)) (of_word _ refl c.keys.ensures (many_next refl c.attributes.ensures (needs_next refl c.expression_at.ensures (many_next refl c.attributes-2.ensures (many_next refl c.clauses.ensures no_more)))))
 
 pub loop_statement-returns : goal.loop_statement-returns
-loop_statement-returns t c = seen_worded (λ h. sym (view-loop _ _ _)) (of_word _ refl c.keys.ensures (many_next refl c.attributes.ensures (needs_next refl c.body.ensures (may_next refl c.continuing.ensures no_more))))
+loop_statement-returns t c = seen_worded (λ h. sym (view_loop _ _ _)) (of_word _ refl c.keys.ensures (many_next refl c.attributes.ensures (needs_next refl c.body.ensures (may_next refl c.continuing.ensures no_more))))
 
 pub for_statement-returns : goal.for_statement-returns
-for_statement-returns t c = seen_worded (λ h. sym (view-for _ _ _ _ _)) (of_word _ refl c.keys.ensures (many_next refl c.attributes.ensures (may_next refl c.optional_statement.ensures (may_next refl c.optional_expression.ensures (may_next refl c.optional_statement-2.ensures (needs_next refl c.body.ensures no_more))))))
+for_statement-returns t c = seen_worded (λ h. sym (view_for _ _ _ _ _)) (of_word _ refl c.keys.ensures (many_next refl c.attributes.ensures (may_next refl c.optional_statement.ensures (may_next refl c.optional_expression.ensures (may_next refl c.optional_statement-2.ensures (needs_next refl c.body.ensures no_more))))))
 
 pub while_statement-returns : goal.while_statement-returns
-while_statement-returns t c = seen_worded (λ h. sym (view-while _ _ _)) (of_word _ refl c.keys.ensures (many_next refl c.attributes.ensures (needs_next refl c.expression_at.ensures (needs_next refl c.body.ensures no_more))))
+while_statement-returns t c = seen_worded (λ h. sym (view_while _ _ _)) (of_word _ refl c.keys.ensures (many_next refl c.attributes.ensures (needs_next refl c.expression_at.ensures (needs_next refl c.body.ensures no_more))))
 
 pub body-returns : goal.body-returns
-body-returns t c = needed_part c.in-Some.ensures.there c.in-Some.ensures.same (seen (sym (made-block _ _)) (of_bare refl refl refl c.keys.ensures (many_next refl c.attributes-attributes.ensures (many_next refl c.statements-statements.ensures no_more)))) c.within.ensures
+body-returns t c = needed_part c.in-Some.ensures.there c.in-Some.ensures.same (seen (sym (view_compound_of _ _)) (of_bare refl refl refl c.keys.ensures (many_next refl c.attributes-attributes.ensures (many_next refl c.statements-statements.ensures no_more)))) c.within.ensures
 
 pub body-returns-in_default : goal.body-returns-in_default
 body-returns-in_default t c = needed_lacks c.in_default.ensures.lacks
@@ -144,19 +145,19 @@ pub optional_statement-returns-in_default : goal.optional_statement-returns-in_d
 optional_statement-returns-in_default t c = may_lacks c.in_default.ensures.lacks
 
 pub else_if-returns : goal.else_if-returns
-else_if-returns t c = seen (sym (made-elif _ _ _)) (of_bare refl refl refl c.keys.ensures (many_next refl c.attributes.ensures (needs_next refl c.expression_at.ensures (needs_next refl c.body.ensures no_more))))
+else_if-returns t c = seen (sym (view_else_if_of _ _ _)) (of_bare refl refl refl c.keys.ensures (many_next refl c.attributes.ensures (needs_next refl c.expression_at.ensures (needs_next refl c.body.ensures no_more))))
 
 pub else_clause-returns : goal.else_clause-returns
-else_clause-returns t c = may_part c.in-Some.ensures.there (seen (sym (made-else _ _)) (of_bare refl refl refl c.keys.ensures (many_next refl c.attributes-attributes.ensures (needs_next refl c.body-body.ensures no_more)))) c.within.ensures
+else_clause-returns t c = may_part c.in-Some.ensures.there (seen (sym (view_else_of _ _)) (of_bare refl refl refl c.keys.ensures (many_next refl c.attributes-attributes.ensures (needs_next refl c.body-body.ensures no_more)))) c.within.ensures
 
 pub else_clause-returns-in_default : goal.else_clause-returns-in_default
 else_clause-returns-in_default t c = may_lacks c.in_default.ensures.lacks
 
 pub clause-returns : goal.clause-returns
-clause-returns t c = seen (sym (made-clause _ _ _)) (of_bare refl refl refl c.keys.ensures (many_next refl c.attributes.ensures (many_next refl c.cases.ensures (needs_next refl c.body.ensures no_more))))
+clause-returns t c = seen (sym (view_clause_of _ _ _)) (of_bare refl refl refl c.keys.ensures (many_next refl c.attributes.ensures (many_next refl c.cases.ensures (needs_next refl c.body.ensures no_more))))
 
 pub continuing-returns : goal.continuing-returns
-continuing-returns t c = may_part c.in-Some.ensures.there (seen (sym (made-continuing _ _ _)) (of_bare refl refl refl c.keys.ensures (many_next refl c.attributes-attributes.ensures (needs_next refl c.body-body.ensures (may_next refl c.break_if-break_if.ensures no_more))))) c.within.ensures
+continuing-returns t c = may_part c.in-Some.ensures.there (seen (sym (view_continuing_of _ _ _)) (of_bare refl refl refl c.keys.ensures (many_next refl c.attributes-attributes.ensures (needs_next refl c.body-body.ensures (may_next refl c.break_if-break_if.ensures no_more))))) c.within.ensures
 
 pub continuing-returns-in_default : goal.continuing-returns-in_default
 continuing-returns-in_default t c = may_lacks c.in_default.ensures.lacks

@@ -7,11 +7,12 @@ use Rattle.wesl_json_form.specs.Schema.{an_entry}
 use Rattle.wesl_json_read.proofs.Depths.{array-depth, get-depth, item-depth}
 use Rattle.wesl_tree_syntax.specs.Tree.{list}
 use Rattle.wesl_tree_syntax.specs.View.{entry_view}
-use Rattle.wesl_json_read_unit.proofs.Imports.{content-collection, made-entry, view-collection, view-item}
+use Rattle.wesl_json_read_unit.proofs.Imports.{content-collection, made-entry}
 use Rattle.wesl_json_read.proofs.Noting.{all_items, is_clear, many_next, needed_lacks, needed_part, needs_next, no_items, no_list, no_more, of_bare, one_item, seen, stopped}
 use Rattle.wesl_json_read_unit.proofs.Spanned.{needs_many_next}
 use Rattle.wesl_json_read_unit.proofs.import.+contents.Goals as goal
 use Rattle.wesl_json_read_unit.proofs.import.+contents.Goals.{entries-else-not-is_stopped, entries-then-not-is_stopped}
+use Rattle.wesl_tree_syntax.proofs.Views.{view_collection, view_item}
 
 pub content_member-content-content-requires : goal.content_member-content-content-requires
 content_member-content-content-requires t c =
@@ -56,7 +57,7 @@ pub content-returns-then-is_some : goal.content-returns-then-is_some
 content-returns-then-is_some t c =
     let d = borrowed_view c.args.value.now in
     let there : is_some (get (codes "list") d) ≡ true = search rules in
-    seen (sym (view-collection _)) (of_bare (content-collection c.args.reader.now.spans d there) refl refl c.keys.ensures (needs_many_next refl there c.entries.ensures no_more))
+    seen (sym (view_collection _)) (of_bare (content-collection c.args.reader.now.spans d there) refl refl c.keys.ensures (needs_many_next refl there c.entries.ensures no_more))
 
 pub content-returns-else-is_some : goal.content-returns-else-is_some
-content-returns-else-is_some t c = seen (sym (view-item _)) c.item.ensures
+content-returns-else-is_some t c = seen (sym (view_item _)) c.item.ensures

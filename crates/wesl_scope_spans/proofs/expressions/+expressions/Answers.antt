@@ -3,11 +3,11 @@ use Rattle.std.specs.Prelude.{None, Some}
 use Rattle.wesl_tree_syntax.specs.Tree.{absent, at, binary, call, call_expression, end, expression_node, indexing, kind, leaf, list, literal, named_component, before, parenthesized, present, template_argument, type_expression, type_or_identifier, unary}
 use Rattle.wesl_tree_syntax.specs.View.{boxed_path, expression_tree, expression_view, literal_tree, optional, text_tree}
 use Rattle.wesl_tree_syntax.specs.declared.expression.TypeExpression.{out-TypeExpression}
-use Rattle.wesl_scope_occurrences.proofs.Views.{view_argument, view_binary, view_call, view_called, view_indexing, view_literal, view_named, view_named_type, view_parenthesized, view_type, view_unary}
 use Rattle.wesl_scope_spans.proofs.Plain.{boxed_path_plain, literal_plain}
 use Rattle.wesl_scope_spans.proofs.Stepped.{walked_all, walked_next, walked_none}
 use Rattle.wesl_scope_spans.proofs.Steps.{beside, beyond, inside, met, none, placed_at, viewed}
 use Rattle.wesl_scope_spans.proofs.expressions.+expressions.Goals as goal
+use Rattle.wesl_tree_syntax.proofs.Views.{type_of, view_argument, view_binary, view_call, view_call_expression, view_indexing, view_literal, view_name, view_named, view_parenthesized, view_unary}
 
 pub in_expression-returns-in-Literal : goal.in_expression-returns-in-Literal
 in_expression-returns-in-Literal t c =
@@ -44,11 +44,11 @@ in_expression-returns-in-Binary t c =
 
 pub in_expression-returns-in-FunctionCall : goal.in_expression-returns-in-FunctionCall
 in_expression-returns-in-FunctionCall t c =
-    viewed (ap expression_view c.in-FunctionCall.is ∙ view_called c.in-FunctionCall.call) (inside (kind call_expression) refl c.in_call.ensures)
+    viewed (ap expression_view c.in-FunctionCall.is ∙ view_call_expression c.in-FunctionCall.call) (inside (kind call_expression) refl c.in_call.ensures)
 
 pub in_expression-returns-in-TypeOrIdentifier : goal.in_expression-returns-in-TypeOrIdentifier
 in_expression-returns-in-TypeOrIdentifier t c =
-    viewed (ap expression_view c.in-TypeOrIdentifier.is ∙ view_named_type c.in-TypeOrIdentifier.ty) (inside (kind type_or_identifier) refl c.in_type.ensures)
+    viewed (ap expression_view c.in-TypeOrIdentifier.is ∙ view_name c.in-TypeOrIdentifier.ty) (inside (kind type_or_identifier) refl c.in_type.ensures)
 
 pub in_node-returns : goal.in_node-returns
 in_node-returns t c s = inside (at expression_node _ _) refl c.in_expression.ensures
@@ -69,13 +69,13 @@ in_call-returns t c = viewed (view_call c.args.call.now) (inside (kind call) ref
 pub in_type-returns-in-None : goal.in_type-returns-in-None
 in_type-returns-in-None t c =
     let p = (out-TypeExpression c.args.ty.now).path in
-    viewed (view_type c.args.ty.now None c.in-None.is) (inside (kind type_expression) refl
+    viewed (type_of c.args.ty.now None c.in-None.is) (inside (kind type_expression) refl
     (beyond (optional boxed_path p) (boxed_path_plain c.args.round p) (met c.meet.ensures (none (before (leaf (kind absent)) end) refl))))
 
 pub in_type-returns-in-Some : goal.in_type-returns-in-Some
 in_type-returns-in-Some t c =
     let p = (out-TypeExpression c.args.ty.now).path in
-    viewed (view_type c.args.ty.now (Some c.in-Some.arguments) c.in-Some.is) (inside (kind type_expression) refl
+    viewed (type_of c.args.ty.now (Some c.in-Some.arguments) c.in-Some.is) (inside (kind type_expression) refl
     (beyond (optional boxed_path p) (boxed_path_plain c.args.round p) (met c.meet.ensures (inside (kind present) refl (c.in_arguments.ensures c.args.round)))))
 
 pub in_arguments-loop-argument-init : goal.in_arguments-loop-argument-init

@@ -2,11 +2,11 @@ use Rattle.std.proofs.Common.{◌∙◌, ap, arith, refl}
 use Rattle.std.specs.Box.{box_value}
 use Rattle.wesl_tree_syntax.specs.Tree.{absent, assignment, at, before, call_statement, clauses, compound, compound_statement, continuing, else_clause, else_if_clause, end, for_loop, if_clause, if_statement, kind, leaf, list, loop, present, return, statement_node, statements, switch, switch_clause, void, while_loop}
 use Rattle.wesl_tree_syntax.specs.View.{continuing_view, else_view, optional, statement_tree, statement_view}
-use Rattle.wesl_scope_occurrences.proofs.Views.{view_asserted, view_assignment, view_block, view_called_statement, view_clause, view_compound, view_continuing, view_declared, view_else, view_else_if, view_for, view_if, view_if_clause, view_loop, view_return, view_switch, view_void, view_while}
 use Rattle.wesl_scope_spans.proofs.Either.{left, stepped}
 use Rattle.wesl_scope_spans.proofs.Stepped.{walked_all, walked_next, walked_none}
 use Rattle.wesl_scope_spans.proofs.Steps.{beside, boxed, held, inside, none, viewed}
 use Rattle.wesl_scope_spans.proofs.statements.+statements.Goals as goal
+use Rattle.wesl_tree_syntax.proofs.Views.{view_assignment, view_block, view_call_statement, view_clause, view_compound, view_const_assert, view_continuing, view_else, view_else_if, view_for, view_if, view_if_clause, view_local, view_loop, view_return, view_switch, view_void, view_while}
 
 pub in_statement-returns-in-Void : goal.in_statement-returns-in-Void
 in_statement-returns-in-Void t c = viewed (ap statement_view c.in-Void.is ∙ view_void) (none (before (leaf (kind void)) end) refl)
@@ -66,13 +66,13 @@ in_statement-returns-in-Return t c =
 pub in_statement-returns-in-FunctionCall : goal.in_statement-returns-in-FunctionCall
 in_statement-returns-in-FunctionCall t c =
     let n = c.in-FunctionCall in
-    viewed (ap statement_view n.is ∙ view_called_statement n.attributes n.call) (inside (kind call_statement) refl (beside (c.in_attributes-in-FunctionCall.ensures c.args.round) c.in_call.ensures))
+    viewed (ap statement_view n.is ∙ view_call_statement n.attributes n.call) (inside (kind call_statement) refl (beside (c.in_attributes-in-FunctionCall.ensures c.args.round) c.in_call.ensures))
 
 pub in_statement-returns-in-ConstAssert : goal.in_statement-returns-in-ConstAssert
-in_statement-returns-in-ConstAssert t c = viewed (ap statement_view c.in-ConstAssert.is ∙ view_asserted c.in-ConstAssert.assertion) (c.in_assertion.ensures c.args.round)
+in_statement-returns-in-ConstAssert t c = viewed (ap statement_view c.in-ConstAssert.is ∙ view_const_assert c.in-ConstAssert.assertion) (c.in_assertion.ensures c.args.round)
 
 pub in_statement-returns-in-Declaration : goal.in_statement-returns-in-Declaration
-in_statement-returns-in-Declaration t c = viewed (ap statement_view c.in-Declaration.is ∙ view_declared c.in-Declaration.declaration) c.in_declaration.ensures
+in_statement-returns-in-Declaration t c = viewed (ap statement_view c.in-Declaration.is ∙ view_local c.in-Declaration.declaration) c.in_declaration.ensures
 
 pub in_statement-returns-in-Increment : goal.in_statement-returns-in-Increment
 in_statement-returns-in-Increment t c =

@@ -1,10 +1,10 @@
 use Rattle.std.proofs.Common.{◌∙◌, ap, arith, refl}
 use Rattle.wesl_tree_syntax.specs.Tree.{import_collection, import_entry, kind, list}
 use Rattle.wesl_tree_syntax.specs.View.{content_view, names_tree}
-use Rattle.wesl_scope_occurrences.proofs.Views.{view_collection, view_entry, view_item}
 use Rattle.wesl_scope_words.proofs.Declared.{named_item}
 use Rattle.wesl_scope_words.proofs.Steps.{beyond, inside, viewed, walked_all, walked_next, walked_none}
 use Rattle.wesl_scope_words.proofs.declarations.+imports.Goals as goal
+use Rattle.wesl_tree_syntax.proofs.Views.{view_collection, view_entry, view_item}
 
 pub in_content-returns-in-Item : goal.in_content-returns-in-Item
 in_content-returns-in-Item t c =

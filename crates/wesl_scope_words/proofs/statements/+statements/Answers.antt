@@ -2,12 +2,11 @@ use Rattle.std.proofs.Common.{◌∙◌, ap, arith, refl}
 use Rattle.std.specs.Box.{box_value}
 use Rattle.wesl_tree_syntax.specs.Tree.{at, clauses, compound, compound_statement, continuing, else_clause, else_if_clause, for_loop, if_clause, if_statement, kind, list, loop, present, statement_node, statements, switch, switch_clause, while_loop}
 use Rattle.wesl_tree_syntax.specs.View.{attributes_tree, continuing_view, else_view, expression_tree, optional, statement_tree, statement_view}
-use Rattle.wesl_scope_occurrences.proofs.Views.{view_asserted, view_assignment, view_block, view_called_statement, view_clause, view_compound, view_continuing, view_declared, view_decrement, view_else, view_else_if, view_for, view_if, view_if_clause, view_increment, view_loop, view_return, view_switch, view_while}
 use Rattle.wesl_scope_words.proofs.Attributes.{attributes_quiet, break_if_quiet, node_quiet, optional_node_quiet, selectors_quiet}
 use Rattle.wesl_scope_words.proofs.Expressions.{call_quiet}
 use Rattle.wesl_scope_words.proofs.Steps.{alone_quiet, beside, beyond, inside, placed_at, still, viewed, walked_all, walked_next, walked_none}
-use Rattle.wesl_scope_words.proofs.Views.{view_break, view_continue, view_discard}
 use Rattle.wesl_scope_words.proofs.statements.+statements.Goals as goal
+use Rattle.wesl_tree_syntax.proofs.Views.{view_assignment, view_block, view_break, view_call_statement, view_clause, view_compound, view_const_assert, view_continue, view_continuing, view_decrement, view_discard, view_else, view_else_if, view_for, view_if, view_if_clause, view_increment, view_local, view_loop, view_return, view_switch, view_while}
 
 pub in_statement-returns-in-Compound : goal.in_statement-returns-in-Compound
 in_statement-returns-in-Compound t c =
@@ -77,16 +76,16 @@ in_statement-returns-in-Return t c =
 pub in_statement-returns-in-FunctionCall : goal.in_statement-returns-in-FunctionCall
 in_statement-returns-in-FunctionCall t c =
     let n = c.in-FunctionCall in
-    still (ap statement_view n.is ∙ view_called_statement n.attributes n.call) (rw (attributes_quiet n.attributes, call_quiet n.call) refl)
+    still (ap statement_view n.is ∙ view_call_statement n.attributes n.call) (rw (attributes_quiet n.attributes, call_quiet n.call) refl)
 
 pub in_statement-returns-in-ConstAssert : goal.in_statement-returns-in-ConstAssert
 in_statement-returns-in-ConstAssert t c =
     let n = c.in-ConstAssert.field-0 in
-    still (ap statement_view c.in-ConstAssert.is ∙ view_asserted n) (rw (attributes_quiet n.attributes, node_quiet n.expression) refl)
+    still (ap statement_view c.in-ConstAssert.is ∙ view_const_assert n) (rw (attributes_quiet n.attributes, node_quiet n.expression) refl)
 
 pub in_statement-returns-in-Declaration : goal.in_statement-returns-in-Declaration
 in_statement-returns-in-Declaration t c =
-    viewed (ap statement_view c.in-Declaration.is ∙ view_declared c.in-Declaration.declaration) c.in_declaration.ensures
+    viewed (ap statement_view c.in-Declaration.is ∙ view_local c.in-Declaration.declaration) c.in_declaration.ensures
 
 pub in_compound-returns : goal.in_compound-returns
 in_compound-returns t c =

@@ -8,9 +8,9 @@ use Rattle.wesl_text_print_statements.specs.Parts.{option_in}
 use Rattle.wesl_text_print_statements.proofs.Bodies.{bare, block_printed, body_printed, clause_printed, continuing_printed, else_if_printed, else_printed, for_printed, if_clause_printed, if_printed, loop_printed, opened_printed, return_printed, switch_printed, while_printed}
 use Rattle.wesl_text_print_statements.proofs.Rows.{all_is}
 use Rattle.wesl_text_print_statements.proofs.SimpleStatements.{assignment_part, call_part, decrement_part, increment_part, local_part}
-use Rattle.wesl_text_print_statements.proofs.Views.{view-assert, view-break, view-continue, view-discard, view-void}
 use Rattle.wesl_tree_syntax.specs.View.{clause_view, continuing_view, else_if_view, else_view, statement_tree}
 use Rattle.wesl_text_print_statements.proofs.statement.+statements.Goals as goal
+use Rattle.wesl_tree_syntax.proofs.Views.{view_break, view_const_assert, view_continue, view_discard, view_void}
 
 pub print_body-returns : goal.print_body-returns
 print_body-returns g t c =
@@ -76,7 +76,7 @@ print_each_clause-returns g t c =
 pub print_bare_statement-returns-in-Void : goal.print_bare_statement-returns-in-Void
 print_bare_statement-returns-in-Void g t c =
     let l = lawful g.met.S.TokenSink.none g.met.S.TokenSink.more in
-    told (ap (slots_in c.args.names.now a_bare_statement) (sym view-void) ∙ ap (bare c.args.names.now) (sym c.in-Void.is))
+    told (ap (slots_in c.args.names.now a_bare_statement) (sym view_void) ∙ ap (bare c.args.names.now) (sym c.in-Void.is))
     (one l c.symbol.ensures)
 
 pub print_bare_statement-returns-in-Compound : goal.print_bare_statement-returns-in-Compound
@@ -116,17 +116,17 @@ print_bare_statement-returns-in-While g t c =
 
 pub print_bare_statement-returns-in-Break : goal.print_bare_statement-returns-in-Break
 print_bare_statement-returns-in-Break g t c =
-    told (ap (slots_in c.args.names.now a_bare_statement) (sym (view-break c.in-Break.attributes)) ∙ ap (bare c.args.names.now) (sym c.in-Break.is))
+    told (ap (slots_in c.args.names.now a_bare_statement) (sym (view_break c.in-Break.attributes)) ∙ ap (bare c.args.names.now) (sym c.in-Break.is))
     c.print_jump.ensures
 
 pub print_bare_statement-returns-in-Continue : goal.print_bare_statement-returns-in-Continue
 print_bare_statement-returns-in-Continue g t c =
-    told (ap (slots_in c.args.names.now a_bare_statement) (sym (view-continue c.in-Continue.attributes)) ∙ ap (bare c.args.names.now) (sym c.in-Continue.is))
+    told (ap (slots_in c.args.names.now a_bare_statement) (sym (view_continue c.in-Continue.attributes)) ∙ ap (bare c.args.names.now) (sym c.in-Continue.is))
     c.print_jump-in-Continue.ensures
 
 pub print_bare_statement-returns-in-Discard : goal.print_bare_statement-returns-in-Discard
 print_bare_statement-returns-in-Discard g t c =
-    told (ap (slots_in c.args.names.now a_bare_statement) (sym (view-discard c.in-Discard.attributes)) ∙ ap (bare c.args.names.now) (sym c.in-Discard.is))
+    told (ap (slots_in c.args.names.now a_bare_statement) (sym (view_discard c.in-Discard.attributes)) ∙ ap (bare c.args.names.now) (sym c.in-Discard.is))
     c.print_jump-in-Discard.ensures
 
 pub print_bare_statement-returns-in-Return : goal.print_bare_statement-returns-in-Return
@@ -137,7 +137,7 @@ print_bare_statement-returns-in-Return g t c =
 
 pub print_bare_statement-returns-in-ConstAssert : goal.print_bare_statement-returns-in-ConstAssert
 print_bare_statement-returns-in-ConstAssert g t c =
-    told (ap (slots_in c.args.names.now a_bare_statement) (sym (view-assert c.in-ConstAssert.assertion)) ∙ ap (bare c.args.names.now) (sym c.in-ConstAssert.is))
+    told (ap (slots_in c.args.names.now a_bare_statement) (sym (view_const_assert c.in-ConstAssert.assertion)) ∙ ap (bare c.args.names.now) (sym c.in-ConstAssert.is))
     c.print_assertion.ensures.statement
 
 pub print_bare_statement-returns-in-Assignment : goal.print_bare_statement-returns-in-Assignment

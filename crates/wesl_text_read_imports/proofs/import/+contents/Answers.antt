@@ -12,15 +12,16 @@ use Rattle.wesl_text_read.specs.Leads.{ReadsTexts, ahead}
 use Rattle.wesl_text_read.proofs.Expressions.{viewed}
 use Rattle.wesl_text_read.proofs.Leading.{levelled}
 use Rattle.wesl_text_read_imports.proofs.Closed.{Items, items_begin, items_end, items_more, reads_closed}
-use Rattle.wesl_text_read_imports.proofs.Imports.{collection_read, entries_close, entry_read, made_entry, view-collection}
+use Rattle.wesl_text_read_imports.proofs.Imports.{collection_read, entries_close, entry_read, made_entry}
 use Rattle.wesl_text_read_imports.proofs.Parts.{reads_end, reads_sign}
 use Rattle.wesl_text_read_imports.proofs.import.+contents.Goals as goal
 use Rattle.wesl_text_read_imports.proofs.import.+contents.Goals.{entries-then-entries-test+else-room-gt0, entries-else-entries-test}
+use Rattle.wesl_tree_syntax.proofs.Views.{view_collection}
 
 pub content-returns-then-begins_sign : goal.content-returns-then-begins_sign
 content-returns-then-begins_sign t c =
     let opens : begins_sign is.BraceLeft (ahead c.args.reader.now) ≡ true = search rules in
-    viewed _ _ (sym (view-collection c.collection.result)) (collection_read (listed entry_view list c.collection.result) opens c.collection.ensures)
+    viewed _ _ (sym (view_collection c.collection.result)) (collection_read (listed entry_view list c.collection.result) opens c.collection.ensures)
 
 pub collection-returns : goal.collection-returns
 collection-returns t c =

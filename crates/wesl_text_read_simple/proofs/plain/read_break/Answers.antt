@@ -5,10 +5,10 @@ use Rattle.wesl_text_tokens.specs.declared.symbol.Symbol.TheVariants as is
 use Rattle.wesl_text_form.specs.Productions.{attrs, nothing, says, sym as sign}
 use Rattle.wesl_text_read.proofs.Expressions.{viewed}
 use Rattle.wesl_text_read_simple.proofs.Nodes.{statement_read}
-use Rattle.wesl_text_read_simple.proofs.Views.{view-break}
 use Rattle.wesl_text_read_simple.proofs.plain.read_break.Goals as goal
+use Rattle.wesl_tree_syntax.proofs.Views.{view_break}
 
 pub returns : goal.returns
 returns c =
-    viewed _ _ (sym (view-break c.one_word-attributes.result))
+    viewed _ _ (sym (view_break c.one_word-attributes.result))
     (statement_read break (attrs (says (codes "break") (sign is.Semicolon nothing))) (before (attributes_tree c.one_word-attributes.result) end) refl (λ f. refl) (λ ts. refl) c.requires c.one_word-attributes.ensures)

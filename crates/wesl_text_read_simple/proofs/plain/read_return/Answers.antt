@@ -6,8 +6,8 @@ use Rattle.wesl_text_form.specs.Productions.{Row, an_attribute, an_expression, a
 use Rattle.wesl_text_read.proofs.Expressions.{viewed}
 use Rattle.wesl_text_read_simple.proofs.Nodes.{statement_read}
 use Rattle.wesl_text_read_simple.proofs.Parted.{part_ends, part_optional, part_run, part_says, part_sign}
-use Rattle.wesl_text_read_simple.proofs.Views.{view-return}
 use Rattle.wesl_text_read_simple.proofs.plain.read_return.Goals as goal
+use Rattle.wesl_tree_syntax.proofs.Views.{view_return}
 
 abbrev value_row : Row
 value_row = optional (own an_expression nothing) (sign is.Semicolon nothing)
@@ -16,7 +16,7 @@ pub returns : goal.returns
 returns c =
     let held = attributes_tree c.attributes-attributes.result in
     let tree = option_view expression_tree c.optional_expression-expression.result in
-    viewed _ _ (sym (view-return c.attributes-attributes.result c.optional_expression-expression.result))
+    viewed _ _ (sym (view_return c.attributes-attributes.result c.optional_expression-expression.result))
     (statement_read return (attrs (says (codes "return") value_row)) (before held (before tree end)) refl (λ f. refl) (λ ts. refl) c.requires
     (part_run (says (codes "return") value_row) attributes an_attribute held (before tree end) c.attributes-attributes.ensures
     (part_says value_row (codes "return") (before tree end) c.skip_word.ensures

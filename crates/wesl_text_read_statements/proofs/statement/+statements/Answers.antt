@@ -20,9 +20,10 @@ use Rattle.wesl_text_read_statements.proofs.ForLoop.{for_row}
 use Rattle.wesl_text_read_statements.proofs.Runs.{Grows, grow_begins, grow_ends, grow_more}
 use Rattle.wesl_text_read_statements.proofs.Seen.{part_absent, part_present}
 use Rattle.wesl_text_read_statements.proofs.Stated.{compound_stated, continuing_end, continuing_stated, for_stated, if_row, if_stated, kind_stated, loop_end, loop_stated, simple_stated, statement_placed, still_behind, switch_row, switch_stated, while_row, while_stated}
-use Rattle.wesl_text_read_statements.proofs.Views.{made-body, made-clause, made-continuing, made-else, made-else-if, made-if, view-compound, view-for, view-if, view-loop, view-switch, view-while}
+use Rattle.wesl_text_read_statements.proofs.Views.{view-for}
 use Rattle.wesl_text_read_statements.proofs.statement.+statements.Goals as goal
 use Rattle.wesl_text_read_statements.proofs.statement.+statements.Goals.{read_statements-then-statements-test+else-room-gt0, read_statements-else-statements-test, lower_statements-then-statements-test+else-room-gt0, lower_statements-else-statements-test, read_else_ifs-then-clauses-test+else-room-gt0, read_else_ifs-else-clauses-test, read_clauses-then-clauses-test+else-room-gt0, read_clauses-else-clauses-test}
+use Rattle.wesl_tree_syntax.proofs.Views.{view_block, view_clause_of, view_compound_of, view_continuing_of, view_else_if_of, view_else_of, view_if, view_if_clause_of, view_loop, view_switch, view_while}
 
 pub read_body-returns : goal.read_body-returns
 read_body-returns t c =
@@ -54,11 +55,11 @@ body_within-returns t c =
     along_run v l c.read_statements-statements.ensures (λ l.
     along_sign l c.close_block.ensures (λ l.
     along_ends)))) in
-    viewed _ _ (sym (made-body c.attributes-attributes.result c.read_statements-statements.result)) (body_made c.args.reader.now.levels (before a (before v end)) row.leads)
+    viewed _ _ (sym (view_compound_of c.attributes-attributes.result c.read_statements-statements.result)) (body_made c.args.reader.now.levels (before a (before v end)) row.leads)
 
 pub read_block-returns : goal.read_block-returns
 read_block-returns t c =
-    viewed _ _ (sym (made-body c.attributes-attributes.result c.lower_statements-statements.result))
+    viewed _ _ (sym (view_compound_of c.attributes-attributes.result c.lower_statements-statements.result))
     (block_made (attributes_tree c.attributes-attributes.result) (listed statement_tree statement_list c.lower_statements-statements.result) c.attributes-attributes.ensures c.skip_sign.ensures c.lower_statements-statements.ensures)
 
 pub read_statements-statements-init : goal.read_statements-statements-init
@@ -161,7 +162,7 @@ read_bare_statement-returns-in-While t c =
 pub read_bare_statement-returns-in-Compound : goal.read_bare_statement-returns-in-Compound
 read_bare_statement-returns-in-Compound t c =
     let known : statement_label (tokens_of c.peek_behind-behind.result.now) ≡ Some (kind compound_statement) = search rules in
-    viewed _ _ (sym (view-compound c.read_body.result)) (compound_stated (tokens_of c.peek_behind-behind.result.now) (compound_view c.read_body.result) known c.peek_behind-behind.ensures c.read_body.ensures)
+    viewed _ _ (sym (view_block c.read_body.result)) (compound_stated (tokens_of c.peek_behind-behind.result.now) (compound_view c.read_body.result) known c.peek_behind-behind.ensures c.read_body.ensures)
 
 pub read_bare_statement-read_simple-requires : goal.read_bare_statement-read_simple-requires
 read_bare_statement-read_simple-requires t c =
@@ -183,7 +184,7 @@ read_if-returns t c =
     along_run es l c.read_else_ifs-else_if_clauses.ensures (λ l.
     along_optional o l c.optional_else-else_clause.ensures (λ l.
     along_ends)))) in
-    viewed _ _ (sym (view-if c.attributes-attributes.result c.read_if_clause-if_clause.result c.read_else_ifs-else_if_clauses.result c.optional_else-else_clause.result))
+    viewed _ _ (sym (view_if c.attributes-attributes.result c.read_if_clause-if_clause.result c.read_else_ifs-else_if_clauses.result c.optional_else-else_clause.result))
     (if_stated c.args.reader.now.levels (before a (before i (before es (before o end)))) row.leads)
 
 pub read_if_clause-returns : goal.read_if_clause-returns
@@ -195,7 +196,7 @@ read_if_clause-returns t c =
     along_own x l c.expression-expression.ensures (λ l.
     along_own b l c.read_body-body.ensures (λ l.
     along_ends))) in
-    viewed _ _ (sym (made-if c.expression-expression.result c.read_body-body.result)) (node_read an_if if_clause (λ ts. refl) row)
+    viewed _ _ (sym (view_if_clause_of c.expression-expression.result c.read_body-body.result)) (node_read an_if if_clause (λ ts. refl) row)
 
 pub read_else_if-returns : goal.read_else_if-returns
 read_else_if-returns t c =
@@ -209,7 +210,7 @@ read_else_if-returns t c =
     along_own x l c.expression-expression.ensures (λ l.
     along_own b l c.read_body-body.ensures (λ l.
     along_ends))))) in
-    viewed _ _ (sym (made-else-if c.attributes-attributes.result c.expression-expression.result c.read_body-body.result)) (node_read an_else_if else_if_clause (λ ts. refl) row)
+    viewed _ _ (sym (view_else_if_of c.attributes-attributes.result c.expression-expression.result c.read_body-body.result)) (node_read an_else_if else_if_clause (λ ts. refl) row)
 
 pub read_else-returns : goal.read_else-returns
 read_else-returns t c =
@@ -220,7 +221,7 @@ read_else-returns t c =
     along_says l c.skip_word.ensures (λ l.
     along_own b l c.read_body-body.ensures (λ l.
     along_ends))) in
-    viewed _ _ (sym (made-else c.attributes-attributes.result c.read_body-body.result)) (node_read an_else else_clause (λ ts. refl) row)
+    viewed _ _ (sym (view_else_of c.attributes-attributes.result c.read_body-body.result)) (node_read an_else else_clause (λ ts. refl) row)
 
 pub optional_else-returns-then-not-begins_else : goal.optional_else-returns-then-not-begins_else
 optional_else-returns-then-not-begins_else t c =
@@ -257,7 +258,7 @@ read_switch-returns t c =
     along_run v l c.read_clauses-clauses.ensures (λ l.
     along_sign l c.close_block.ensures (λ l.
     along_ends))))))) in
-    viewed _ _ (sym (view-switch c.attributes-attributes.result c.expression-expression.result c.attributes-body_attributes.result c.read_clauses-clauses.result))
+    viewed _ _ (sym (view_switch c.attributes-attributes.result c.expression-expression.result c.attributes-body_attributes.result c.read_clauses-clauses.result))
     (switch_stated c.args.reader.now.levels (before a (before x (before b (before v end)))) row.leads)
 
 pub read_clause-returns : goal.read_clause-returns
@@ -281,7 +282,7 @@ clause_within-returns t c =
     along_may first c.skip_colon.ensures (λ l.
     along_own b l c.read_body-body.ensures (λ l.
     along_ends)) in
-    viewed _ _ (sym (made-clause c.attributes-attributes.result c.some_selectors-case_selectors.result c.read_body-body.result))
+    viewed _ _ (sym (view_clause_of c.attributes-attributes.result c.some_selectors-case_selectors.result c.read_body-body.result))
     (clause_parts a v (before b end) c.attributes-attributes.ensures c.some_selectors-case_selectors.ensures row.leads)
 
 pub read_loop-returns : goal.read_loop-returns
@@ -295,7 +296,7 @@ read_loop-returns t c =
     along_optional o l c.optional_continuing-continuing.ensures (λ l.
     along_sign l c.close_block.ensures (λ l.
     along_ends)) in
-    viewed _ _ (sym (view-loop c.attributes-attributes.result c.read_block-body.result c.optional_continuing-continuing.result))
+    viewed _ _ (sym (view_loop c.attributes-attributes.result c.read_block-body.result c.optional_continuing-continuing.result))
     (loop_stated a b (before o end) c.attributes-attributes.ensures c.skip_word.ensures c.read_block-body.ensures (λ l. (row l).leads))
 
 pub read_continuing-returns : goal.read_continuing-returns
@@ -309,7 +310,7 @@ read_continuing-returns t c =
     along_optional o l c.optional_break_if-break_if.ensures (λ l.
     along_sign l c.close_block.ensures (λ l.
     along_ends)) in
-    viewed _ _ (sym (made-continuing c.attributes-attributes.result c.read_block-body.result c.optional_break_if-break_if.result))
+    viewed _ _ (sym (view_continuing_of c.attributes-attributes.result c.read_block-body.result c.optional_break_if-break_if.result))
     (continuing_stated a b (before o end) c.attributes-attributes.ensures c.skip_word.ensures c.read_block-body.ensures (λ l. (row l).leads))
 
 pub read_for-returns : goal.read_for-returns
@@ -345,5 +346,5 @@ read_while-returns t c =
     along_own x l c.expression-condition.ensures (λ l.
     along_own b l c.read_body-body.ensures (λ l.
     along_ends)))) in
-    viewed _ _ (sym (view-while c.attributes-attributes.result c.expression-condition.result c.read_body-body.result))
+    viewed _ _ (sym (view_while c.attributes-attributes.result c.expression-condition.result c.read_body-body.result))
     (while_stated c.args.reader.now.levels (before a (before x (before b end))) row.leads)

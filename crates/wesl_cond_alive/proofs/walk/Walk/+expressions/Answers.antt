@@ -5,9 +5,9 @@ use Rattle.wesl_tree_syntax.specs.declared.expression.TypeExpression.{out-TypeEx
 use Rattle.wesl_cond_alive.specs.Walk.{leaf}
 use Rattle.wesl_cond_alive.specs.Views.{spot_view, state_of}
 use Rattle.wesl_cond_alive.proofs.Steps.{all_passed, at, begun, gone_on, inside_of, next_tree, none, over}
-use Rattle.wesl_cond_alive.proofs.Views.{view_parenthesized, view_named, view_indexing, view_unary, view_binary, view_called, view_named_type, view_call, view_argument, view_type}
 use Rattle.wesl_cond_alive.proofs.Nodes.{plain_type_joined, type_joined, stepped}
 use Rattle.wesl_cond_alive.proofs.walk.Walk.+expressions.Goals as goal
+use Rattle.wesl_tree_syntax.proofs.Views.{type_of, view_argument, view_binary, view_call, view_call_expression, view_indexing, view_name, view_named, view_parenthesized, view_unary}
 
 pub expression-returns-in-Parenthesized : goal.expression-returns-in-Parenthesized
 expression-returns-in-Parenthesized t c =
@@ -37,12 +37,12 @@ expression-returns-in-Binary t c =
 pub expression-returns-in-FunctionCall : goal.expression-returns-in-FunctionCall
 expression-returns-in-FunctionCall t c =
     let v = c.in-FunctionCall in
-    over (spot_view c.args.here.now) (next_tree (none c.args.self.now) c.call.ensures) (ap expression_view v.is ∙ view_called v.call) refl
+    over (spot_view c.args.here.now) (next_tree (none c.args.self.now) c.call.ensures) (ap expression_view v.is ∙ view_call_expression v.call) refl
 
 pub expression-returns-in-TypeOrIdentifier : goal.expression-returns-in-TypeOrIdentifier
 expression-returns-in-TypeOrIdentifier t c =
     let v = c.in-TypeOrIdentifier in
-    over (spot_view c.args.here.now) (next_tree (none c.args.self.now) c.type_expression.ensures) (ap expression_view v.is ∙ view_named_type v.ty) refl
+    over (spot_view c.args.here.now) (next_tree (none c.args.self.now) c.type_expression.ensures) (ap expression_view v.is ∙ view_name v.ty) refl
 
 pub call-returns : goal.call-returns
 call-returns t c = over (spot_view c.args.here.now) (next_tree (next_tree (none c.args.self.now) c.type_expression.ensures) c.nodes.ensures) (view_call c.args.call.now) refl
@@ -74,10 +74,10 @@ pub type_expression-returns-in-None : goal.type_expression-returns-in-None
 type_expression-returns-in-None t c =
     let v = out-TypeExpression c.args.ty.now in
     let h = spot_view c.args.here.now in
-    over h c.add.ensures (view_type c.args.ty.now None c.in-None.is) (plain_type_joined h (state_of c.args.self.now) v.path v.ident)
+    over h c.add.ensures (type_of c.args.ty.now None c.in-None.is) (plain_type_joined h (state_of c.args.self.now) v.path v.ident)
 
 pub type_expression-returns-in-Some : goal.type_expression-returns-in-Some
 type_expression-returns-in-Some t c =
     let v = out-TypeExpression c.args.ty.now in
     let h = spot_view c.args.here.now in
-    over h (next_tree c.add.ensures c.arguments.ensures) (view_type c.args.ty.now (Some c.in-Some.arguments) c.in-Some.is) (type_joined h (state_of c.args.self.now) v.path v.ident (map argument_view c.in-Some.arguments.items))
+    over h (next_tree c.add.ensures c.arguments.ensures) (type_of c.args.ty.now (Some c.in-Some.arguments) c.in-Some.is) (type_joined h (state_of c.args.self.now) v.path v.ident (map argument_view c.in-Some.arguments.items))

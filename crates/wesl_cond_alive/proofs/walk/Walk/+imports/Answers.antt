@@ -4,8 +4,8 @@ use Rattle.wesl_cond_alive.specs.Walk.{leaf}
 use Rattle.wesl_cond_alive.specs.Views.{spot_view}
 use Rattle.wesl_cond_alive.proofs.Nodes.{stepped}
 use Rattle.wesl_cond_alive.proofs.Steps.{all_passed, begun, gone_on, inside_of}
-use Rattle.wesl_cond_alive.proofs.Views.{view_entry}
 use Rattle.wesl_cond_alive.proofs.walk.Walk.+imports.Goals as goal
+use Rattle.wesl_tree_syntax.proofs.Views.{view_entry}
 
 pub entries-loop-entry-init : goal.entries-loop-entry-init
 entries-loop-entry-init t c = begun entry_view (spot_view c.args.here.now)

@@ -8,9 +8,9 @@ use Rattle.wesl_cond_alive.specs.Walk.{body, last, listed, standing, walk, whole
 use Rattle.wesl_cond_alive.specs.Noted.{below, standing_by}
 use Rattle.wesl_cond_alive.specs.Views.{state_of, here_view, spot_view}
 use Rattle.wesl_cond_alive.proofs.Steps.{all_passed, begun, listed_passed, from, gone_on, judged_passed, next_tree, none, over, walked_as}
-use Rattle.wesl_cond_alive.proofs.Views.{view_assignment, view_called_statement, view_clause, view_compound, view_continuing, view_else, view_else_if, view_for, view_if, view_if_clause, view_loop, view_return, view_switch, view_while}
 use Rattle.wesl_cond_alive.proofs.Nodes.{as_open, body_joined, closed_joined, continuing_joined, loop_joined, next_listed, in_place, in_span, stepped}
 use Rattle.wesl_cond_alive.proofs.walk.Walk.+statements.Goals as goal
+use Rattle.wesl_tree_syntax.proofs.Views.{view_assignment, view_call_statement, view_clause, view_compound, view_continuing, view_else, view_else_if, view_for, view_if, view_if_clause, view_loop, view_return, view_switch, view_while}
 
 pub statement-returns-in-Assignment : goal.statement-returns-in-Assignment
 statement-returns-in-Assignment t c =
@@ -38,7 +38,7 @@ statement-returns-in-Return t c =
 pub statement-returns-in-FunctionCall : goal.statement-returns-in-FunctionCall
 statement-returns-in-FunctionCall t c =
     let v = c.in-FunctionCall in
-    over (here_view c.args.here.now) (next_tree (next_tree (none c.args.self.now) c.attributes-in-FunctionCall.ensures) c.call.ensures) (ap statement_view v.is ∙ view_called_statement v.attributes v.call) refl
+    over (here_view c.args.here.now) (next_tree (next_tree (none c.args.self.now) c.attributes-in-FunctionCall.ensures) c.call.ensures) (ap statement_view v.is ∙ view_call_statement v.attributes v.call) refl
 
 pub statement-returns-in-For : goal.statement-returns-in-For
 statement-returns-in-For t c =

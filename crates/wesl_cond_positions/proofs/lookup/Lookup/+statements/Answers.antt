@@ -8,10 +8,10 @@ use Rattle.wesl_tree_syntax.specs.declared.statement.ContinuingStatement.{out-Co
 use Rattle.wesl_tree_syntax.specs.declared.statement.SwitchClause.{out-SwitchClause}
 use Rattle.wesl_cond_alive.specs.Views.{outline_view}
 use Rattle.wesl_cond_alive.proofs.Once.{ok_map}
-use Rattle.wesl_cond_alive.proofs.Views.{view_clause, view_compound, view_continuing, view_for, view_loop, view_while}
 use Rattle.wesl_cond_positions.proofs.Fields.{alone, begins_by, begins_two, begins_with, no_element, this_element, through_span}
 use Rattle.wesl_cond_positions.proofs.Nodes.{body_found, closing_list, continuing_closing, element_found, last_found, last_leaf_found, loop_closing, no_element_found, no_statement_found, nowhere, onward, statement_found}
 use Rattle.wesl_cond_positions.proofs.lookup.Lookup.+statements.Goals as goal
+use Rattle.wesl_tree_syntax.proofs.Views.{view_clause, view_compound, view_continuing, view_for, view_loop, view_while}
 
 pub compound-returns-in-1 : goal.compound-returns-in-1
 compound-returns-in-1 t c =

@@ -17,9 +17,10 @@ use Rattle.wesl_json_read.proofs.Noting.{all_items, cleared, given_next, is_clea
 use Rattle.wesl_json_read.proofs.Operators.{operator_head}
 use Rattle.wesl_json_read.proofs.Rows.{plain-binary, plain-unary}
 use Rattle.wesl_json_read.proofs.Steps.{same-reads}
-use Rattle.wesl_json_read.proofs.Trees.{made_type, view-binary, view-call, view-component, view-indexing, view-literal, view-parenthesized, view-truth, view-type, view-unary}
+use Rattle.wesl_json_read.proofs.Trees.{made_type, view-call, view-component, view-literal, view-truth}
 use Rattle.wesl_json_read.proofs.reader.Reader.+expressions.Goals as goal
 use Rattle.wesl_json_read.proofs.reader.Reader.+expressions.Goals.{argument_list-else-not-is_stopped, argument_list-then-not-is_stopped, expressions-else-not-is_stopped, expressions-then-not-is_stopped}
+use Rattle.wesl_tree_syntax.proofs.Views.{view_binary, view_indexing, view_name, view_parenthesized, view_unary}
 
 pub expression_at-expression-expression-requires : goal.expression_at-expression-expression-requires
 expression_at-expression-expression-requires t c =
@@ -99,7 +100,7 @@ expression_object-returns t c =
     c.expression_word-word.ensures c.span.ensures c.worded_expression.ensures
 
 pub parenthesized-returns-in-Some : goal.parenthesized-returns-in-Some
-parenthesized-returns-in-Some t c = seen_worded (λ h. sym (view-parenthesized _)) (of_word _ refl c.keys.ensures (needs_next refl c.in-Some.ensures.noted no_more))
+parenthesized-returns-in-Some t c = seen_worded (λ h. sym (view_parenthesized _)) (of_word _ refl c.keys.ensures (needs_next refl c.in-Some.ensures.noted no_more))
 
 pub parenthesized-returns-in-None : goal.parenthesized-returns-in-None
 parenthesized-returns-in-None t c = seen_worded (λ h. absurd (true≢false (sym (c.in-None.ensures.there h)))) (of_word _ refl c.keys.ensures (needs_next refl c.in-None.ensures.noted no_more))
@@ -111,7 +112,7 @@ pub component-returns-in-None : goal.component-returns-in-None
 component-returns-in-None t c = seen_worded (λ h. absurd (true≢false (sym (c.in-None.ensures.there (cleared _ _ c.text-component.ensures.kept h))))) (of_word _ refl c.keys.ensures (needs_next refl c.in-None.ensures.noted (needs_next refl c.text-component.ensures no_more)))
 
 pub indexing-returns-in-Some-index : goal.indexing-returns-in-Some-index
-indexing-returns-in-Some-index t c = seen_worded (λ h. sym (view-indexing _ _)) (of_word _ refl c.keys.ensures (needs_next refl c.in-Some.ensures.noted (needs_next refl c.in-Some-index.ensures.noted no_more)))
+indexing-returns-in-Some-index t c = seen_worded (λ h. sym (view_indexing _ _)) (of_word _ refl c.keys.ensures (needs_next refl c.in-Some.ensures.noted (needs_next refl c.in-Some-index.ensures.noted no_more)))
 
 pub indexing-returns-in-None-index : goal.indexing-returns-in-None-index
 indexing-returns-in-None-index t c = seen_worded (λ h. absurd (true≢false (sym (c.in-None-index.ensures.there h)))) (of_word _ refl c.keys.ensures (needs_next refl c.in-Some.ensures.noted (needs_next refl c.in-None-index.ensures.noted no_more)))
@@ -120,13 +121,13 @@ pub indexing-returns-in-None : goal.indexing-returns-in-None
 indexing-returns-in-None t c = seen_worded (λ h. absurd (true≢false (sym (c.in-None.ensures.there (cleared _ _ c.boxed_at-index.ensures.noted.kept h))))) (of_word _ refl c.keys.ensures (needs_next refl c.in-None.ensures.noted (needs_next refl c.boxed_at-index.ensures.noted no_more)))
 
 pub unary-returns-in-Some : goal.unary-returns-in-Some
-unary-returns-in-Some t c = seen_worded (λ h. sym (view-unary _ _)) (of_headed _ (plain-unary _) refl c.keys.ensures (operator_head (λ spans. (expression_of spans words.Unary).row) unary_words (borrowed_view c.args.value.now) refl c.unary_operator-operator.ensures) (needs_next refl c.in-Some.ensures.noted no_more))
+unary-returns-in-Some t c = seen_worded (λ h. sym (view_unary _ _)) (of_headed _ (plain-unary _) refl c.keys.ensures (operator_head (λ spans. (expression_of spans words.Unary).row) unary_words (borrowed_view c.args.value.now) refl c.unary_operator-operator.ensures) (needs_next refl c.in-Some.ensures.noted no_more))
 
 pub unary-returns-in-None : goal.unary-returns-in-None
 unary-returns-in-None t c = seen_worded (λ h. absurd (true≢false (sym (c.in-None.ensures.there h)))) (of_headed _ (plain-unary _) refl c.keys.ensures (operator_head (λ spans. (expression_of spans words.Unary).row) unary_words (borrowed_view c.args.value.now) refl c.unary_operator-operator.ensures) (needs_next refl c.in-None.ensures.noted no_more))
 
 pub binary-returns-in-Some-right : goal.binary-returns-in-Some-right
-binary-returns-in-Some-right t c = seen_worded (λ h. sym (view-binary _ _ _)) (of_headed _ (plain-binary _) refl c.keys.ensures (operator_head (λ spans. (expression_of spans words.Binary).row) binary_words (borrowed_view c.args.value.now) refl c.binary_operator-operator.ensures) (needs_next refl c.in-Some.ensures.noted (needs_next refl c.in-Some-right.ensures.noted no_more)))
+binary-returns-in-Some-right t c = seen_worded (λ h. sym (view_binary _ _ _)) (of_headed _ (plain-binary _) refl c.keys.ensures (operator_head (λ spans. (expression_of spans words.Binary).row) binary_words (borrowed_view c.args.value.now) refl c.binary_operator-operator.ensures) (needs_next refl c.in-Some.ensures.noted (needs_next refl c.in-Some-right.ensures.noted no_more)))
 
 pub binary-returns-in-None-right : goal.binary-returns-in-None-right
 binary-returns-in-None-right t c = seen_worded (λ h. absurd (true≢false (sym (c.in-None-right.ensures.there h)))) (of_headed _ (plain-binary _) refl c.keys.ensures (operator_head (λ spans. (expression_of spans words.Binary).row) binary_words (borrowed_view c.args.value.now) refl c.binary_operator-operator.ensures) (needs_next refl c.in-Some.ensures.noted (needs_next refl c.in-None-right.ensures.noted no_more)))
@@ -154,7 +155,7 @@ worded_expression-returns-in-None t c =
     let d = (borrowed_view c.args.value.now) in
     let spans = c.args.self.now.spans in
     let ty = c.type_object.result in
-    rw c.in-None.is (weaker (λ a b h. subst (λ u. ReadsTypeOrIdentifier spans d u a b) (sym (view-type ty)) (bare-type d (type_view ty) a b h)) (λ x h. h) c.type_object.ensures)
+    rw c.in-None.is (weaker (λ a b h. subst (λ u. ReadsTypeOrIdentifier spans d u a b) (sym (view_name ty)) (bare-type d (type_view ty) a b h)) (λ x h. h) c.type_object.ensures)
 
 pub type_of-returns-then-is_object : goal.type_of-returns-then-is_object
 type_of-returns-then-is_object t c =

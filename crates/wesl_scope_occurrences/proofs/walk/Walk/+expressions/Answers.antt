@@ -4,9 +4,9 @@ use Rattle.std.specs.Prelude.{Some, None}
 use Rattle.wesl_tree_syntax.specs.declared.expression.TypeExpression.{out-TypeExpression}
 use Rattle.wesl_scope_occurrences.specs.Views.{here_view}
 use Rattle.wesl_scope_occurrences.proofs.Steps.{all_passed, at, begin, begun, gone_on, inside, lawful, next, none, over, tells}
-use Rattle.wesl_scope_occurrences.proofs.Views.{view_parenthesized, view_named, view_indexing, view_unary, view_binary, view_called, view_named_type, view_call, view_argument, view_literal, view_type}
 use Rattle.wesl_scope_occurrences.proofs.Nodes.{literal_joined, plain_type_joined, type_joined}
 use Rattle.wesl_scope_occurrences.proofs.walk.Walk.+expressions.Goals as goal
+use Rattle.wesl_tree_syntax.proofs.Views.{type_of, view_argument, view_binary, view_call, view_call_expression, view_indexing, view_literal, view_name, view_named, view_parenthesized, view_unary}
 
 pub expression-returns-in-Parenthesized : goal.expression-returns-in-Parenthesized
 expression-returns-in-Parenthesized g t c =
@@ -42,13 +42,13 @@ pub expression-returns-in-FunctionCall : goal.expression-returns-in-FunctionCall
 expression-returns-in-FunctionCall g t c =
     let l = lawful g.met.H.Handler.none g.met.H.Handler.more in
     let v = c.in-FunctionCall in
-    over (here_view c.args.here.now) (next l (none l c.args.self.now) c.call.ensures) (ap expression_view v.is ∙ view_called v.call) refl
+    over (here_view c.args.here.now) (next l (none l c.args.self.now) c.call.ensures) (ap expression_view v.is ∙ view_call_expression v.call) refl
 
 pub expression-returns-in-TypeOrIdentifier : goal.expression-returns-in-TypeOrIdentifier
 expression-returns-in-TypeOrIdentifier g t c =
     let l = lawful g.met.H.Handler.none g.met.H.Handler.more in
     let v = c.in-TypeOrIdentifier in
-    over (here_view c.args.here.now) (next l (none l c.args.self.now) c.type_expression.ensures) (ap expression_view v.is ∙ view_named_type v.ty) refl
+    over (here_view c.args.here.now) (next l (none l c.args.self.now) c.type_expression.ensures) (ap expression_view v.is ∙ view_name v.ty) refl
 
 pub call-returns : goal.call-returns
 call-returns g t c =
@@ -91,14 +91,14 @@ type_expression-returns-in-None g t c =
     let l = lawful g.met.H.Handler.none g.met.H.Handler.more in
     let v = out-TypeExpression c.args.ty.now in
     let h = here_view c.args.here.now in
-    over h (tells l (none l c.args.self.now) c.reference.ensures) (view_type c.args.ty.now None c.in-None.is) (plain_type_joined h (begin c.args.self.now) v.path v.ident)
+    over h (tells l (none l c.args.self.now) c.reference.ensures) (type_of c.args.ty.now None c.in-None.is) (plain_type_joined h (begin c.args.self.now) v.path v.ident)
 
 pub type_expression-returns-in-Some : goal.type_expression-returns-in-Some
 type_expression-returns-in-Some g t c =
     let l = lawful g.met.H.Handler.none g.met.H.Handler.more in
     let v = out-TypeExpression c.args.ty.now in
     let h = here_view c.args.here.now in
-    over h (next l (tells l (none l c.args.self.now) c.reference.ensures) c.arguments.ensures) (view_type c.args.ty.now (Some c.in-Some.arguments) c.in-Some.is) (type_joined h (begin c.args.self.now) v.path v.ident (map argument_view c.in-Some.arguments.items))
+    over h (next l (tells l (none l c.args.self.now) c.reference.ensures) c.arguments.ensures) (type_of c.args.ty.now (Some c.in-Some.arguments) c.in-Some.is) (type_joined h (begin c.args.self.now) v.path v.ident (map argument_view c.in-Some.arguments.items))
 
 pub expression-returns-in-Literal : goal.expression-returns-in-Literal
 expression-returns-in-Literal g t c =

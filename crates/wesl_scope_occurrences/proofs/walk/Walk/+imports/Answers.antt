@@ -2,8 +2,8 @@ use Rattle.std.proofs.Common.{refl, ap, sym, ◌∙◌}
 use Rattle.wesl_tree_syntax.specs.View.{content_view, entry_view}
 use Rattle.wesl_scope_occurrences.specs.Views.{here_view}
 use Rattle.wesl_scope_occurrences.proofs.Steps.{all_passed, at, begun, gone_on, inside, lawful, next, none, over}
-use Rattle.wesl_scope_occurrences.proofs.Views.{view_entry, view_item, view_collection}
 use Rattle.wesl_scope_occurrences.proofs.walk.Walk.+imports.Goals as goal
+use Rattle.wesl_tree_syntax.proofs.Views.{view_collection, view_entry, view_item}
 
 pub entries-loop-entry-init : goal.entries-loop-entry-init
 entries-loop-entry-init g t c =

@@ -9,9 +9,9 @@ use Rattle.wesl_tree_syntax.specs.declared.statement.IfClause.{out-IfClause}
 use Rattle.wesl_tree_syntax.specs.declared.statement.SwitchClause.{out-SwitchClause}
 use Rattle.wesl_scope_occurrences.specs.Views.{here_view}
 use Rattle.wesl_scope_occurrences.proofs.Steps.{all_passed, at, begin, begun, gone_on, inside, lawful, next, next_within, none, numbers, over, over_kept, over_within, step, tells}
-use Rattle.wesl_scope_occurrences.proofs.Views.{view_assignment, view_block, view_called_statement, view_clause, view_compound, view_continuing, view_else, view_else_if, view_for, view_if, view_if_clause, view_loop, view_return, view_switch, view_while, view_asserted, view_declared, view_void}
 use Rattle.wesl_scope_occurrences.proofs.Nodes.{body_joined, continuing_joined, for_joined, for_tree, held_joined, inner_statement, loop_joined, stepped_joined}
 use Rattle.wesl_scope_occurrences.proofs.walk.Walk.+statements.Goals as goal
+use Rattle.wesl_tree_syntax.proofs.Views.{view_assignment, view_block, view_call_statement, view_clause, view_compound, view_const_assert, view_continuing, view_else, view_else_if, view_for, view_if, view_if_clause, view_local, view_loop, view_return, view_switch, view_void, view_while}
 
 pub statement-returns-in-For : goal.statement-returns-in-For
 statement-returns-in-For g t c =
@@ -88,7 +88,7 @@ pub statement-returns-in-FunctionCall : goal.statement-returns-in-FunctionCall
 statement-returns-in-FunctionCall g t c =
     let l = lawful g.met.H.Handler.none g.met.H.Handler.more in
     let v = c.in-FunctionCall in
-    over (here_view c.args.here.now) (next l (next l (none l c.args.self.now) c.attributes-in-FunctionCall.ensures) c.call.ensures) (ap statement_view v.is ∙ view_called_statement v.attributes v.call) refl
+    over (here_view c.args.here.now) (next l (next l (none l c.args.self.now) c.attributes-in-FunctionCall.ensures) c.call.ensures) (ap statement_view v.is ∙ view_call_statement v.attributes v.call) refl
 
 pub if_clause-returns : goal.if_clause-returns
 if_clause-returns g t c =
@@ -195,13 +195,13 @@ pub statement-returns-in-ConstAssert : goal.statement-returns-in-ConstAssert
 statement-returns-in-ConstAssert g t c =
     let l = lawful g.met.H.Handler.none g.met.H.Handler.more in
     let v = c.in-ConstAssert in
-    over (here_view c.args.here.now) (next l (none l c.args.self.now) c.assertion.ensures) (ap statement_view v.is ∙ view_asserted v.assertion) refl
+    over (here_view c.args.here.now) (next l (none l c.args.self.now) c.assertion.ensures) (ap statement_view v.is ∙ view_const_assert v.assertion) refl
 
 pub statement-returns-in-Declaration : goal.statement-returns-in-Declaration
 statement-returns-in-Declaration g t c =
     let l = lawful g.met.H.Handler.none g.met.H.Handler.more in
     let v = c.in-Declaration in
-    over (here_view c.args.here.now) (next l (none l c.args.self.now) c.declaration.ensures) (ap statement_view v.is ∙ view_declared v.declaration) refl
+    over (here_view c.args.here.now) (next l (none l c.args.self.now) c.declaration.ensures) (ap statement_view v.is ∙ view_local v.declaration) refl
 
 pub update-returns : goal.update-returns
 update-returns g t c =

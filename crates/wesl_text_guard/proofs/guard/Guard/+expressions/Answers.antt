@@ -3,7 +3,6 @@ use Rattle.std.specs.Box.{with_value}
 use Rattle.wesl_tree_syntax.specs.Tree.{absent, binary, call, call_expression, expression_node, indexing, kind, list, literal, named_component, parenthesized, present, reference, type_expression, type_or_identifier, unary}
 use Rattle.wesl_tree_syntax.specs.View.{argument_view, expression_tree, expression_view}
 use Rattle.wesl_tree_syntax.specs.declared.expression.TypeExpression.{out-TypeExpression}
-use Rattle.wesl_tree_copies.proofs.Views.{view_call, view_call_of, view_type, view_type_of}
 use Rattle.wesl_text_form.specs.Operators.{is_tight, operator_class, primary, same_class, takes_left, takes_right}
 use Rattle.wesl_text_guard.specs.Guards.{as_it_is, as_item, as_operand}
 use Rattle.wesl_text_guard.proofs.Absorbed.{left_takes_primary, right_takes_primary}
@@ -11,8 +10,9 @@ use Rattle.wesl_text_guard.proofs.Listed.{all_guarded, list_asks, none_yet, pass
 use Rattle.wesl_text_guard.specs.Parentheses.{stands_listed}
 use Rattle.wesl_text_guard.proofs.Operands.{operand_fits}
 use Rattle.wesl_text_guard.proofs.Parts.{argument_listed, from, nothing, of_kind, of_operand, of_place, of_two, seen, then, untouched_ident, untouched_literal, untouched_path, untouched_text}
-use Rattle.wesl_tree_renumber.proofs.Views.{view_binary, view_call_expression, view_indexing, view_literal, view_name, view_named, view_parenthesized, view_unary}
+use Rattle.wesl_tree_renumber.proofs.Views.{view_binary, view_unary}
 use Rattle.wesl_text_guard.proofs.guard.Guard.+expressions.Goals as goal
+use Rattle.wesl_tree_syntax.proofs.Views.{view_call, view_call_expression, view_call_of, view_indexing, view_literal, view_name, view_named, view_parenthesized, view_type, view_type_of}
 
 pub items-loop-node-init : goal.items-loop-node-init
 items-loop-node-init t c = ((refl, λ k d h. refl), none_yet as_item expression_tree _ _)

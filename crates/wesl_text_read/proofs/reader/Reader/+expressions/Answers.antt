@@ -21,10 +21,11 @@ use Rattle.wesl_text_read.proofs.Leading.{levelled}
 use Rattle.wesl_text_read.proofs.Lists.{Lists, list_begins, list_ends, list_more}
 use Rattle.wesl_text_read.proofs.Expressions.{argument_more, bare_enclosed, enclosed_read, indexing_read, list_closed, operand_bare, operand_prefixed, Untested, operation_read, prefixed_read, template_opened, tested_read, type_parts, viewed, whole_read, worded_call, worded_type}
 use Rattle.wesl_text_read.proofs.Rows.{row_commas, row_ends, row_sign}
-use Rattle.wesl_text_read.proofs.Trees.{made_type, view-call, view-type}
+use Rattle.wesl_text_read.proofs.Trees.{made_type, view-call}
 use Rattle.std.proofs.lemmas.List.{length-map}
 use Rattle.wesl_text_read.proofs.reader.Reader.+expressions.Goals as goal
 use Rattle.wesl_text_read.proofs.reader.Reader.+expressions.Goals.{expressions-then-expressions-test+else-room-gt0, expressions-else-expressions-test, list_arguments-then-arguments-test+else-room-gt0, list_arguments-else-arguments-test}
+use Rattle.wesl_tree_syntax.proofs.Views.{view_name}
 
 pub operation-returns : goal.operation-returns
 operation-returns t c = operation_read c.args.operator c.args.left c.expression-right.result c.binary-node.result c.placed.result c.step.ensures.skips c.expression-right.ensures c.binary-node.ensures c.placed.ensures
@@ -118,7 +119,7 @@ bare_expression-returns-then-begins_sign t c =
 pub named_expression-returns-then-not-begins_sign : goal.named_expression-returns-then-not-begins_sign
 named_expression-returns-then-not-begins_sign t c =
     let none : begins_sign is.ParenLeft (ahead c.type_expression-ty.new.self) ≡ false = search rules in
-    viewed _ _ (sym (view-type c.type_expression-ty.result)) (worded_type (type_view c.type_expression-ty.result) c.requires.word c.requires.truth c.type_expression-ty.ensures none)
+    viewed _ _ (sym (view_name c.type_expression-ty.result)) (worded_type (type_view c.type_expression-ty.result) c.requires.word c.requires.truth c.type_expression-ty.ensures none)
 
 pub named_expression-returns : goal.named_expression-returns
 named_expression-returns t c =

@@ -4,9 +4,9 @@ use Rattle.wesl_tree_syntax.specs.declared.expression.TypeExpression.{out-TypeEx
 use Rattle.wesl_tree_copies.specs.Copied.{Copied}
 use Rattle.wesl_tree_copies.proofs.Listed.{all_copied, none_yet, one_more}
 use Rattle.wesl_tree_copies.proofs.Parts.{copied_box, nothing, of_kind, of_place, seen, then}
-use Rattle.wesl_tree_copies.proofs.Views.{view_call, view_call_of, view_type, view_type_of}
 use Rattle.wesl_tree_copies.proofs.copying.Copying.+expressions.Goals as goal
 use Rattle.wesl_tree_copies.proofs.copying.Copying.+expressions.Goals.{type_expression-in-None, type_expression-in-Some}
+use Rattle.wesl_tree_syntax.proofs.Views.{view_call, view_call_of, view_type, view_type_of}
 
 pub arguments-loop-argument-init : goal.arguments-loop-argument-init
 arguments-loop-argument-init t c = none_yet argument_view argument_view _ _ _ _ c.list-copies.ensures.empty c.list-copies.ensures.noted

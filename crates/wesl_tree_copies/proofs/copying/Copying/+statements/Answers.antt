@@ -4,8 +4,9 @@ use Rattle.wesl_tree_syntax.specs.Tree.{break, call_statement, clauses, compound
 use Rattle.wesl_tree_syntax.specs.View.{clause_view, else_if_view, optional, statement_tree, statement_view}
 use Rattle.wesl_tree_copies.proofs.Listed.{all_copied, none_yet, one_more}
 use Rattle.wesl_tree_copies.proofs.Parts.{lent_statement, nothing, of_assignment, of_kind, of_place, optional_box, seen, then}
-use Rattle.wesl_tree_copies.proofs.Views.{view_assignment, view_block, view_break, view_call_statement, view_clause, view_clause_of, view_compound, view_compound_of, view_const_assert, view_continue, view_continuing, view_continuing_of, view_decrement, view_discard, view_else, view_else_if, view_else_if_of, view_else_of, view_for, view_if, view_if_clause, view_if_clause_of, view_increment, view_local, view_loop, view_return, view_switch, view_while}
+use Rattle.wesl_tree_copies.proofs.Views.{view_assignment}
 use Rattle.wesl_tree_copies.proofs.copying.Copying.+statements.Goals as goal
+use Rattle.wesl_tree_syntax.proofs.Views.{view_block, view_break, view_call_statement, view_clause, view_clause_of, view_compound, view_compound_of, view_const_assert, view_continue, view_continuing, view_continuing_of, view_decrement, view_discard, view_else, view_else_if, view_else_if_of, view_else_of, view_for, view_if, view_if_clause, view_if_clause_of, view_increment, view_local, view_loop, view_return, view_switch, view_while}
 
 pub statements-loop-node-init : goal.statements-loop-node-init
 statements-loop-node-init t c = none_yet statement_tree statement_tree _ _ _ _ c.list-copies.ensures.empty c.list-copies.ensures.noted

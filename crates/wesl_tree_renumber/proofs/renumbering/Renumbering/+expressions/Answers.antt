@@ -3,11 +3,11 @@ use Rattle.std.specs.Box.{with_value}
 use Rattle.wesl_tree_syntax.specs.Tree.{absent, call, call_expression, expression_node, indexing, list, literal, named_component, parenthesized, present, reference, type_expression, type_or_identifier}
 use Rattle.wesl_tree_syntax.specs.View.{argument_view, expression_tree, expression_view}
 use Rattle.wesl_tree_syntax.specs.declared.expression.TypeExpression.{out-TypeExpression}
-use Rattle.wesl_tree_copies.proofs.Views.{view_call, view_call_of, view_type, view_type_of}
 use Rattle.wesl_tree_renumber.proofs.Listed.{all_numbered, none_yet, passed_more}
 use Rattle.wesl_tree_renumber.proofs.Parts.{argument_numbered, from, nothing, of_binary, of_kind, of_place, of_unary, seen, then, untouched_literal, untouched_path, untouched_text}
-use Rattle.wesl_tree_renumber.proofs.Views.{view_binary, view_call_expression, view_indexing, view_literal, view_name, view_named, view_parenthesized, view_unary}
+use Rattle.wesl_tree_renumber.proofs.Views.{view_binary, view_unary}
 use Rattle.wesl_tree_renumber.proofs.renumbering.Renumbering.+expressions.Goals as goal
+use Rattle.wesl_tree_syntax.proofs.Views.{view_call, view_call_expression, view_call_of, view_indexing, view_literal, view_name, view_named, view_parenthesized, view_type, view_type_of}
 
 pub nodes-loop-node-init : goal.nodes-loop-node-init
 nodes-loop-node-init t c = ((refl, λ k d h. refl), none_yet expression_tree _ _)

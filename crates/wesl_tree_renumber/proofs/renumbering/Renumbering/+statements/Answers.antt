@@ -3,10 +3,11 @@ use Rattle.std.specs.Box.{box_value}
 use Rattle.wesl_tree_syntax.specs.Tree.{break, call_statement, clauses, compound, compound_statement, continue, continuing, decrement, discard, else_clause, else_if_clause, for_loop, if_clause, if_statement, increment, list, loop, present, return, statement_node, statements, switch, switch_clause, while_loop}
 use Rattle.wesl_tree_syntax.specs.View.{assert_view, attributes_tree, call_view, clause_view, compound_view, continuing_view, declaration_view, else_if_view, else_view, expression_tree, if_view, listed, optional, statement_tree, statement_view}
 use Rattle.wesl_tree_syntax.specs.declared.statement.Statement.{out-Statement}
-use Rattle.wesl_tree_copies.proofs.Views.{view_assignment, view_block, view_break, view_call_statement, view_clause, view_clause_of, view_compound, view_compound_of, view_const_assert, view_continue, view_continuing, view_continuing_of, view_decrement, view_discard, view_else, view_else_if, view_else_if_of, view_else_of, view_for, view_if, view_if_clause, view_if_clause_of, view_increment, view_local, view_loop, view_return, view_switch, view_while}
+use Rattle.wesl_tree_copies.proofs.Views.{view_assignment}
 use Rattle.wesl_tree_renumber.proofs.Listed.{all_numbered, none_yet, passed_more}
 use Rattle.wesl_tree_renumber.proofs.Parts.{from, nothing, of_assignment, of_kind, of_place, seen, then}
 use Rattle.wesl_tree_renumber.proofs.renumbering.Renumbering.+statements.Goals as goal
+use Rattle.wesl_tree_syntax.proofs.Views.{view_block, view_break, view_call_statement, view_clause, view_clause_of, view_compound, view_compound_of, view_const_assert, view_continue, view_continuing, view_continuing_of, view_decrement, view_discard, view_else, view_else_if, view_else_if_of, view_else_of, view_for, view_if, view_if_clause, view_if_clause_of, view_increment, view_local, view_loop, view_return, view_switch, view_while}
 
 pub statements-loop-node-init : goal.statements-loop-node-init
 statements-loop-node-init t c = ((refl, λ k d h. refl), none_yet statement_tree _ _)

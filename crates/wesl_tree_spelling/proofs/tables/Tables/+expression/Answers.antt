@@ -4,9 +4,9 @@ use Rattle.wesl_tree_syntax.specs.View.{argument_view, expression_tree, expressi
 use Rattle.wesl_tree_spelling.proofs.Chains.{at_places, last, of_kind, of_labels, seen, stop, then}
 use Rattle.wesl_tree_spelling.proofs.Pairs.{all_agree, other_lengths, pair_agrees, pair_differs}
 use Rattle.wesl_tree_spelling.proofs.UnlikeExpressions.{unlike}
-use Rattle.wesl_tree_spelling.proofs.Views.{type_of, view_argument, view_binary, view_call, view_call_expression, view_indexing, view_literal, view_name, view_named, view_parenthesized, view_type}
 use Rattle.wesl_tree_spelling.proofs.Bools.{and_true}
 use Rattle.wesl_tree_spelling.proofs.tables.Tables.+expression.Goals as goal
+use Rattle.wesl_tree_syntax.proofs.Views.{type_of, view_argument, view_binary, view_call, view_call_expression, view_indexing, view_literal, view_name, view_named, view_parenthesized, view_type}
 
 pub same_nodes-returns-then-len : goal.same_nodes-returns-then-len
 same_nodes-returns-then-len t c = other_lengths expression_tree c.args.self.now c.args.left.now c.args.right.now c.len.ensures c.len-2.ensures c.if-len.true

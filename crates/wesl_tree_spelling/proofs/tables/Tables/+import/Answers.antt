@@ -4,8 +4,8 @@ use Rattle.wesl_tree_syntax.specs.View.{entry_view}
 use Rattle.wesl_tree_spelling.proofs.Chains.{last, of_kind, seen, stop, then}
 use Rattle.wesl_tree_spelling.proofs.Pairs.{all_agree, other_lengths, pair_agrees, pair_differs}
 use Rattle.wesl_tree_spelling.proofs.Bools.{and_true}
-use Rattle.wesl_tree_spelling.proofs.Views.{view_entry}
 use Rattle.wesl_tree_spelling.proofs.tables.Tables.+import.Goals as goal
+use Rattle.wesl_tree_syntax.proofs.Views.{view_entry}
 
 pub same_entries-returns-then-len : goal.same_entries-returns-then-len
 same_entries-returns-then-len t c = other_lengths entry_view c.args.self.now c.args.left.now c.args.right.now c.len.ensures c.len-2.ensures c.if-len.true

@@ -4,9 +4,9 @@ use Rattle.wesl_tree_syntax.specs.View.{clause_view, else_if_view, statement_tre
 use Rattle.wesl_tree_spelling.proofs.Chains.{grouped, last, left_by, of_kind, plainly, right_by, seen, stop, then}
 use Rattle.wesl_tree_spelling.proofs.Pairs.{all_agree, other_lengths, pair_agrees, pair_differs}
 use Rattle.wesl_tree_spelling.proofs.UnlikeStatements.{group_left, group_right, not_is_for, not_is_if, not_is_plain_loop, not_is_switch, unlike_Compound, unlike_ConstAssert, unlike_Declaration, unlike_For, unlike_If, unlike_Loop, unlike_Switch, unlike_Void, unlike_While}
-use Rattle.wesl_tree_spelling.proofs.Views.{view_block, view_clause, view_compound, view_const_assert, view_continuing, view_else, view_else_if, view_for, view_if, view_if_clause, view_local, view_loop, view_switch, view_while}
 use Rattle.wesl_tree_spelling.specs.Groups.{is_for, is_if, is_plain_loop, is_switch}
 use Rattle.wesl_tree_spelling.proofs.tables.Tables.+statement.Goals as goal
+use Rattle.wesl_tree_syntax.proofs.Views.{view_block, view_clause, view_compound, view_const_assert, view_continuing, view_else, view_else_if, view_for, view_if, view_if_clause, view_local, view_loop, view_switch, view_while}
 
 pub same_statements-returns-then-len : goal.same_statements-returns-then-len
 same_statements-returns-then-len t c = other_lengths statement_tree c.args.self.now c.args.left.now c.args.right.now c.len.ensures c.len-2.ensures c.if-len.true

@@ -3,9 +3,9 @@ use Rattle.wesl_tree_syntax.specs.Tree.{call_statement}
 use Rattle.wesl_tree_syntax.specs.View.{statement_view}
 use Rattle.wesl_tree_spelling.proofs.Chains.{grouped, last, left_by, of_kind, right_by, stop, then}
 use Rattle.wesl_tree_spelling.proofs.UnlikeStatements.{group_left, group_right, not_is_action, unlike_Assignment, unlike_FunctionCall}
-use Rattle.wesl_tree_spelling.proofs.Views.{view_call_statement}
 use Rattle.wesl_tree_spelling.specs.Groups.{is_action}
 use Rattle.wesl_tree_spelling.proofs.tables.Tables.same_action.Goals as goal
+use Rattle.wesl_tree_syntax.proofs.Views.{view_call_statement}
 
 pub returns-in_default : goal.returns-in_default
 returns-in_default c =

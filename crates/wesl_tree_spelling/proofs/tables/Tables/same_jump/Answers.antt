@@ -3,9 +3,9 @@ use Rattle.wesl_tree_syntax.specs.Tree.{break, continue, discard, return}
 use Rattle.wesl_tree_syntax.specs.View.{statement_view}
 use Rattle.wesl_tree_spelling.proofs.Chains.{grouped, last, left_by, of_kind, right_by, stop, then}
 use Rattle.wesl_tree_spelling.proofs.UnlikeStatements.{group_left, group_right, not_is_jump, unlike_Break, unlike_Continue, unlike_Discard, unlike_Return}
-use Rattle.wesl_tree_spelling.proofs.Views.{view_break, view_continue, view_discard, view_return}
 use Rattle.wesl_tree_spelling.specs.Groups.{is_jump}
 use Rattle.wesl_tree_spelling.proofs.tables.Tables.same_jump.Goals as goal
+use Rattle.wesl_tree_syntax.proofs.Views.{view_break, view_continue, view_discard, view_return}
 
 pub returns-in_default : goal.returns-in_default
 returns-in_default c =

@@ -3,9 +3,9 @@ use Rattle.wesl_tree_syntax.specs.Tree.{decrement, increment}
 use Rattle.wesl_tree_syntax.specs.View.{statement_view}
 use Rattle.wesl_tree_spelling.proofs.Chains.{grouped, last, left_by, of_kind, right_by, stop, then}
 use Rattle.wesl_tree_spelling.proofs.UnlikeStatements.{group_left, group_right, not_is_step, unlike_Decrement, unlike_Increment}
-use Rattle.wesl_tree_spelling.proofs.Views.{view_decrement, view_increment}
 use Rattle.wesl_tree_spelling.specs.Groups.{is_step}
 use Rattle.wesl_tree_spelling.proofs.tables.Tables.same_step.Goals as goal
+use Rattle.wesl_tree_syntax.proofs.Views.{view_decrement, view_increment}
 
 pub returns-in_default : goal.returns-in_default
 returns-in_default c =

@@ -1,11 +1,11 @@
 use Rattle.wesl_visit_collect.proofs.Adds.{beside, entered, hollow, inside, passed, placed_at, viewed, walked_all, walked_next, walked_none}
 use Rattle.wesl_visit_collect.proofs.Seen.{seen_expression, seen_type}
 use Rattle.wesl_visit_collect.proofs.Parts.{literal_hollow, type_none, type_some}
-use Rattle.wesl_visit_collect.proofs.Expressions.{view_argument, view_binary, view_call, view_call_expression, view_indexing, view_literal, view_name, view_named, view_parenthesized, view_unary}
 use Rattle.wesl_tree_syntax.specs.View.{expression_tree, expression_view}
 use Rattle.wesl_visit_collect.proofs.collect.expression.+collecting.Goals as goal
 use Rattle.std.proofs.Common.{ap, arith, refl, ◌∙◌}
 use Rattle.wesl_tree_syntax.specs.Tree.{binary, call, call_expression, indexing, kind, list, named_component, parenthesized, template_argument, type_or_identifier, unary}
+use Rattle.wesl_tree_syntax.proofs.Views.{view_argument, view_binary, view_call, view_call_expression, view_indexing, view_literal, view_name, view_named, view_parenthesized, view_unary}
 
 pub at_expression-returns-then-enter : goal.at_expression-returns-then-enter
 at_expression-returns-then-enter g t c = entered (seen_expression g.T.Kind.sought c.args.node.now) c.if-enter.true c.enter.ensures c.in_expression.ensures

@@ -6,16 +6,17 @@ use Rattle.wesl_tree_syntax.specs.declared.span.Spanned.{Spanned}
 use Rattle.wesl_tree_syntax.specs.declared.statement.Statement.{Statement}
 use Rattle.wesl_visit_collect.proofs.Adds.{beside, entered, hollow, inside, passed, placed_at, viewed, walked_all, walked_next, walked_none}
 use Rattle.wesl_visit_collect.proofs.Seen.{seen_statement}
-use Rattle.wesl_visit_collect.proofs.Statements.{view_Assignment, view_Compound, view_ConstAssert, view_Declaration, view_For, view_FunctionCall, view_If, view_Loop, view_Return, view_Switch, view_Void, view_While, view_clause, view_compound, view_continuing, view_else, view_else_if, view_if}
+use Rattle.wesl_visit_collect.proofs.Statements.{view_Assignment}
 use Rattle.wesl_visit_collect.proofs.collect.statement.+collecting_statements.Goals as goal
+use Rattle.wesl_tree_syntax.proofs.Views.{view_block, view_call_statement, view_clause, view_compound, view_const_assert, view_continuing, view_else, view_else_if, view_for, view_if_clause, view_local, view_loop, view_return, view_switch, view_void, view_while}
 
 pub in_statement-returns-in-Void : goal.in_statement-returns-in-Void
 in_statement-returns-in-Void g t c =
-    viewed (ap statement_view c.in-Void.is ∙ view_Void) (hollow _ refl)
+    viewed (ap statement_view c.in-Void.is ∙ view_void) (hollow _ refl)
 
 pub in_statement-returns-in-Compound : goal.in_statement-returns-in-Compound
 in_statement-returns-in-Compound g t c =
-    viewed (ap statement_view c.in-Compound.is ∙ view_Compound c.in-Compound.body) (inside (kind compound_statement) refl (λ f. refl) c.in_compound.ensures)
+    viewed (ap statement_view c.in-Compound.is ∙ view_block c.in-Compound.body) (inside (kind compound_statement) refl (λ f. refl) c.in_compound.ensures)
 
 pub in_statement-returns-in-Assignment : goal.in_statement-returns-in-Assignment
 in_statement-returns-in-Assignment g t c =
@@ -23,39 +24,39 @@ in_statement-returns-in-Assignment g t c =
 
 pub in_statement-returns-in-If : goal.in_statement-returns-in-If
 in_statement-returns-in-If g t c =
-    viewed (ap statement_view c.in-If.is ∙ view_If c.in-If.attributes c.in-If.if_clause c.in-If.else_if_clauses c.in-If.else_clause) (inside (kind if_statement) refl (λ f. refl) (beside c.at_attributes-in-If.ensures (beside (viewed (view_if c.in-If.if_clause) (inside (kind if_clause) refl (λ f. refl) (beside c.at_expression-in-If.ensures c.in_compound-in-If.ensures))) (beside (inside (kind list) refl (λ f. refl) c.in_else_ifs.ensures) c.in_optional_else.ensures))))
+    viewed (ap statement_view c.in-If.is ∙ view_if_clause c.in-If.attributes c.in-If.if_clause c.in-If.else_if_clauses c.in-If.else_clause) (inside (kind if_statement) refl (λ f. refl) (beside c.at_attributes-in-If.ensures (beside (viewed (view_if_clause c.in-If.if_clause) (inside (kind if_clause) refl (λ f. refl) (beside c.at_expression-in-If.ensures c.in_compound-in-If.ensures))) (beside (inside (kind list) refl (λ f. refl) c.in_else_ifs.ensures) c.in_optional_else.ensures))))
 
 pub in_statement-returns-in-Switch : goal.in_statement-returns-in-Switch
 in_statement-returns-in-Switch g t c =
-    viewed (ap statement_view c.in-Switch.is ∙ view_Switch c.in-Switch.attributes c.in-Switch.expression c.in-Switch.body_attributes c.in-Switch.clauses) (inside (kind switch) refl (λ f. refl) (beside c.at_attributes-in-Switch.ensures (beside c.at_expression-in-Switch.ensures (beside c.at_attributes-in-Switch-2.ensures (inside (kind clauses) refl (λ f. refl) c.in_clauses.ensures)))))
+    viewed (ap statement_view c.in-Switch.is ∙ view_switch c.in-Switch.attributes c.in-Switch.expression c.in-Switch.body_attributes c.in-Switch.clauses) (inside (kind switch) refl (λ f. refl) (beside c.at_attributes-in-Switch.ensures (beside c.at_expression-in-Switch.ensures (beside c.at_attributes-in-Switch-2.ensures (inside (kind clauses) refl (λ f. refl) c.in_clauses.ensures)))))
 
 pub in_statement-returns-in-Loop : goal.in_statement-returns-in-Loop
 in_statement-returns-in-Loop g t c =
-    viewed (ap statement_view c.in-Loop.is ∙ view_Loop c.in-Loop.attributes c.in-Loop.body c.in-Loop.continuing) (inside (kind loop) refl (λ f. refl) (beside c.at_attributes-in-Loop.ensures (beside c.in_compound-in-Loop.ensures c.in_optional_continuing.ensures)))
+    viewed (ap statement_view c.in-Loop.is ∙ view_loop c.in-Loop.attributes c.in-Loop.body c.in-Loop.continuing) (inside (kind loop) refl (λ f. refl) (beside c.at_attributes-in-Loop.ensures (beside c.in_compound-in-Loop.ensures c.in_optional_continuing.ensures)))
 
 pub in_statement-returns-in-For : goal.in_statement-returns-in-For
 in_statement-returns-in-For g t c =
-    viewed (ap statement_view c.in-For.is ∙ view_For c.in-For.attributes c.in-For.initializer c.in-For.condition c.in-For.update c.in-For.body) (inside (kind for_loop) refl (λ f. refl) (beside c.at_attributes-in-For.ensures (beside c.at_optional_statement.ensures (beside c.at_optional_expression.ensures (beside c.at_optional_statement-in-For.ensures c.in_compound-in-For.ensures)))))
+    viewed (ap statement_view c.in-For.is ∙ view_for c.in-For.attributes c.in-For.initializer c.in-For.condition c.in-For.update c.in-For.body) (inside (kind for_loop) refl (λ f. refl) (beside c.at_attributes-in-For.ensures (beside c.at_optional_statement.ensures (beside c.at_optional_expression.ensures (beside c.at_optional_statement-in-For.ensures c.in_compound-in-For.ensures)))))
 
 pub in_statement-returns-in-While : goal.in_statement-returns-in-While
 in_statement-returns-in-While g t c =
-    viewed (ap statement_view c.in-While.is ∙ view_While c.in-While.attributes c.in-While.condition c.in-While.body) (inside (kind while_loop) refl (λ f. refl) (beside c.at_attributes-in-While.ensures (beside c.at_expression-in-While.ensures c.in_compound-in-While.ensures)))
+    viewed (ap statement_view c.in-While.is ∙ view_while c.in-While.attributes c.in-While.condition c.in-While.body) (inside (kind while_loop) refl (λ f. refl) (beside c.at_attributes-in-While.ensures (beside c.at_expression-in-While.ensures c.in_compound-in-While.ensures)))
 
 pub in_statement-returns-in-Return : goal.in_statement-returns-in-Return
 in_statement-returns-in-Return g t c =
-    viewed (ap statement_view c.in-Return.is ∙ view_Return c.in-Return.attributes c.in-Return.expression) (inside (kind return) refl (λ f. refl) (beside c.at_attributes-in-Return.ensures c.at_optional_expression-in-Return.ensures))
+    viewed (ap statement_view c.in-Return.is ∙ view_return c.in-Return.attributes c.in-Return.expression) (inside (kind return) refl (λ f. refl) (beside c.at_attributes-in-Return.ensures c.at_optional_expression-in-Return.ensures))
 
 pub in_statement-returns-in-FunctionCall : goal.in_statement-returns-in-FunctionCall
 in_statement-returns-in-FunctionCall g t c =
-    viewed (ap statement_view c.in-FunctionCall.is ∙ view_FunctionCall c.in-FunctionCall.attributes c.in-FunctionCall.call) (inside (kind call_statement) refl (λ f. refl) (beside c.at_attributes-in-FunctionCall.ensures c.in_call.ensures))
+    viewed (ap statement_view c.in-FunctionCall.is ∙ view_call_statement c.in-FunctionCall.attributes c.in-FunctionCall.call) (inside (kind call_statement) refl (λ f. refl) (beside c.at_attributes-in-FunctionCall.ensures c.in_call.ensures))
 
 pub in_statement-returns-in-ConstAssert : goal.in_statement-returns-in-ConstAssert
 in_statement-returns-in-ConstAssert g t c =
-    viewed (ap statement_view c.in-ConstAssert.is ∙ view_ConstAssert c.in-ConstAssert.assertion) c.in_assert.ensures
+    viewed (ap statement_view c.in-ConstAssert.is ∙ view_const_assert c.in-ConstAssert.assertion) c.in_assert.ensures
 
 pub in_statement-returns-in-Declaration : goal.in_statement-returns-in-Declaration
 in_statement-returns-in-Declaration g t c =
-    viewed (ap statement_view c.in-Declaration.is ∙ view_Declaration c.in-Declaration.declaration) c.in_declaration.ensures
+    viewed (ap statement_view c.in-Declaration.is ∙ view_local c.in-Declaration.declaration) c.in_declaration.ensures
 
 pub in_compound-returns : goal.in_compound-returns
 in_compound-returns g t c =

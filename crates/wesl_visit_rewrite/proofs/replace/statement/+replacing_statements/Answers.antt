@@ -13,13 +13,14 @@ use Rattle.wesl_tree_syntax.specs.declared.statement.Statement.{Statement, out-S
 use Rattle.wesl_tree_syntax.specs.declared.statement.SwitchClause.{out-SwitchClause}
 use Rattle.wesl_visit_collect.specs.Picks.{seeks_statements}
 use Rattle.wesl_visit_collect.specs.Finished.{Finished}
-use Rattle.wesl_visit_rewrite.proofs.Statements.{CompoundStatement_is, CompoundStatement_of, ContinuingStatement_is, ContinuingStatement_of, ElseClause_is, ElseClause_of, ElseIfClause_is, ElseIfClause_of, IfClause_is, IfClause_of, SwitchClause_is, SwitchClause_of, view_Assignment, view_Break, view_Compound, view_ConstAssert, view_Continue, view_Declaration, view_Decrement, view_Discard, view_For, view_FunctionCall, view_If, view_Increment, view_Loop, view_Return, view_Switch, view_Void, view_While}
+use Rattle.wesl_visit_rewrite.proofs.Statements.{CompoundStatement_is, CompoundStatement_of, ContinuingStatement_is, ContinuingStatement_of, ElseClause_is, ElseClause_of, ElseIfClause_is, ElseIfClause_of, IfClause_is, IfClause_of, SwitchClause_is, SwitchClause_of, view_Assignment}
 use Rattle.wesl_visit_rewrite.proofs.Steps.{beside, first_all, first_none, from, inside, passed_step, taken_else, taken_if, unmoved, viewed, went_list}
 use Rattle.wesl_visit_rewrite.proofs.replace.statement.+replacing_statements.Goals as goal
+use Rattle.wesl_tree_syntax.proofs.Views.{view_block, view_break, view_call_statement, view_const_assert, view_continue, view_decrement, view_discard, view_for, view_if, view_increment, view_local, view_loop, view_return, view_switch, view_void, view_while}
 
 pub in_statement-returns-in-Void : goal.in_statement-returns-in-Void
 in_statement-returns-in-Void g t c =
-    let p = ap statement_view c.in-Void.is ∙ view_Void in
+    let p = ap statement_view c.in-Void.is ∙ view_void in
     viewed _ _ p p (unmoved _ refl)
 
 pub in_statement-returns-in-Compound : goal.in_statement-returns-in-Compound
@@ -27,7 +28,7 @@ unfolding out-Statement denote.Hole.Carrier.out
 in_statement-returns-in-Compound g t c =
     let b = c.in-Compound in
     let d0 = c.in_compound in
-    rw b.is (viewed _ _ (view_Compound b.body) (view_Compound d0.new.body)
+    rw b.is (viewed _ _ (view_block b.body) (view_block d0.new.body)
     (inside (kind compound_statement) refl refl (from compound_view b.body-is d0.ensures)))
 
 pub in_statement-returns-in-Assignment : goal.in_statement-returns-in-Assignment
@@ -45,7 +46,7 @@ in_statement-returns-in-Increment g t c =
     let b = c.in-Increment in
     let d0 = c.at_attributes-goes-in-Increment in
     let d1 = c.at_expression-in-Increment in
-    viewed _ _ (ap statement_view b.is ∙ view_Increment b.attributes b.expression) (view_Increment d0.new.attributes d1.new.node)
+    viewed _ _ (ap statement_view b.is ∙ view_increment b.attributes b.expression) (view_increment d0.new.attributes d1.new.node)
     (inside (kind increment) refl refl (beside (from attributes_tree b.attributes-is d0.ensures) (from expression_tree b.expression-is d1.ensures)))
 
 pub in_statement-returns-in-Decrement : goal.in_statement-returns-in-Decrement
@@ -53,7 +54,7 @@ in_statement-returns-in-Decrement g t c =
     let b = c.in-Decrement in
     let d0 = c.at_attributes-goes-in-Decrement in
     let d1 = c.at_expression-in-Decrement in
-    viewed _ _ (ap statement_view b.is ∙ view_Decrement b.attributes b.expression) (view_Decrement d0.new.attributes d1.new.node)
+    viewed _ _ (ap statement_view b.is ∙ view_decrement b.attributes b.expression) (view_decrement d0.new.attributes d1.new.node)
     (inside (kind decrement) refl refl (beside (from attributes_tree b.attributes-is d0.ensures) (from expression_tree b.expression-is d1.ensures)))
 
 pub in_statement-returns-in-If : goal.in_statement-returns-in-If
@@ -63,7 +64,7 @@ in_statement-returns-in-If g t c =
     let d1 = c.in_if-goes in
     let d2 = c.in_else_ifs-goes in
     let d3 = c.in_optional_else in
-    viewed _ _ (ap statement_view b.is ∙ view_If b.attributes b.if_clause b.else_if_clauses b.else_clause) (view_If d0.new.attributes d1.new.clause d2.new.clauses d3.new.clause)
+    viewed _ _ (ap statement_view b.is ∙ view_if b.attributes b.if_clause b.else_if_clauses b.else_clause) (view_if d0.new.attributes d1.new.clause d2.new.clauses d3.new.clause)
     (inside (kind if_statement) refl refl (beside (from attributes_tree b.attributes-is d0.ensures) (beside (from if_view b.if_clause-is d1.ensures) (beside (from (listed else_if_view list) b.else_if_clauses-is d2.ensures) (from (optional else_view) b.else_clause-is d3.ensures)))))
 
 pub in_statement-returns-in-Switch : goal.in_statement-returns-in-Switch
@@ -73,7 +74,7 @@ in_statement-returns-in-Switch g t c =
     let d1 = c.at_expression-goes-in-Switch in
     let d2 = c.at_attributes-goes-in-Switch-2 in
     let d3 = c.in_clauses in
-    viewed _ _ (ap statement_view b.is ∙ view_Switch b.attributes b.expression b.body_attributes b.clauses) (view_Switch d0.new.attributes d1.new.node d2.new.attributes d3.new.clauses)
+    viewed _ _ (ap statement_view b.is ∙ view_switch b.attributes b.expression b.body_attributes b.clauses) (view_switch d0.new.attributes d1.new.node d2.new.attributes d3.new.clauses)
     (inside (kind switch) refl refl (beside (from attributes_tree b.attributes-is d0.ensures) (beside (from expression_tree b.expression-is d1.ensures) (beside (from attributes_tree b.body_attributes-is d2.ensures) (from (listed clause_view clauses) b.clauses-is d3.ensures)))))
 
 pub in_statement-returns-in-Loop : goal.in_statement-returns-in-Loop
@@ -82,7 +83,7 @@ in_statement-returns-in-Loop g t c =
     let d0 = c.at_attributes-goes-in-Loop in
     let d1 = c.in_compound-goes in
     let d2 = c.in_optional_continuing in
-    viewed _ _ (ap statement_view b.is ∙ view_Loop b.attributes b.body b.continuing) (view_Loop d0.new.attributes d1.new.body d2.new.continuing)
+    viewed _ _ (ap statement_view b.is ∙ view_loop b.attributes b.body b.continuing) (view_loop d0.new.attributes d1.new.body d2.new.continuing)
     (inside (kind loop) refl refl (beside (from attributes_tree b.attributes-is d0.ensures) (beside (from compound_view b.body-is d1.ensures) (from (optional continuing_view) b.continuing-is d2.ensures))))
 
 pub in_statement-returns-in-For : goal.in_statement-returns-in-For
@@ -93,7 +94,7 @@ in_statement-returns-in-For g t c =
     let d2 = c.at_optional_expression-goes in
     let d3 = c.at_optional_statement-goes-in-For in
     let d4 = c.in_compound-in-For in
-    viewed _ _ (ap statement_view b.is ∙ view_For b.attributes b.initializer b.condition b.update b.body) (view_For d0.new.attributes d1.new.node d2.new.node d3.new.node d4.new.body)
+    viewed _ _ (ap statement_view b.is ∙ view_for b.attributes b.initializer b.condition b.update b.body) (view_for d0.new.attributes d1.new.node d2.new.node d3.new.node d4.new.body)
     (inside (kind for_loop) refl refl (beside (from attributes_tree b.attributes-is d0.ensures) (beside (from (optional (λ s. statement_tree (box_value s))) b.initializer-is d1.ensures) (beside (from (optional expression_tree) b.condition-is d2.ensures) (beside (from (optional (λ s. statement_tree (box_value s))) b.update-is d3.ensures) (from compound_view b.body-is d4.ensures))))))
 
 pub in_statement-returns-in-While : goal.in_statement-returns-in-While
@@ -102,7 +103,7 @@ in_statement-returns-in-While g t c =
     let d0 = c.at_attributes-goes-in-While in
     let d1 = c.at_expression-goes-in-While in
     let d2 = c.in_compound-in-While in
-    viewed _ _ (ap statement_view b.is ∙ view_While b.attributes b.condition b.body) (view_While d0.new.attributes d1.new.node d2.new.body)
+    viewed _ _ (ap statement_view b.is ∙ view_while b.attributes b.condition b.body) (view_while d0.new.attributes d1.new.node d2.new.body)
     (inside (kind while_loop) refl refl (beside (from attributes_tree b.attributes-is d0.ensures) (beside (from expression_tree b.condition-is d1.ensures) (from compound_view b.body-is d2.ensures))))
 
 pub in_statement-returns-in-Break : goal.in_statement-returns-in-Break
@@ -110,7 +111,7 @@ unfolding out-Statement denote.Hole.Carrier.out
 in_statement-returns-in-Break g t c =
     let b = c.in-Break in
     let d0 = c.at_attributes in
-    rw b.is (viewed _ _ (view_Break b.attributes) (view_Break d0.new.attributes)
+    rw b.is (viewed _ _ (view_break b.attributes) (view_break d0.new.attributes)
     (inside (kind break) refl refl (from attributes_tree b.attributes-is d0.ensures)))
 
 pub in_statement-returns-in-Continue : goal.in_statement-returns-in-Continue
@@ -118,7 +119,7 @@ unfolding out-Statement denote.Hole.Carrier.out
 in_statement-returns-in-Continue g t c =
     let b = c.in-Continue in
     let d0 = c.at_attributes-in-Continue in
-    rw b.is (viewed _ _ (view_Continue b.attributes) (view_Continue d0.new.attributes)
+    rw b.is (viewed _ _ (view_continue b.attributes) (view_continue d0.new.attributes)
     (inside (kind continue) refl refl (from attributes_tree b.attributes-is d0.ensures)))
 
 pub in_statement-returns-in-Return : goal.in_statement-returns-in-Return
@@ -126,7 +127,7 @@ in_statement-returns-in-Return g t c =
     let b = c.in-Return in
     let d0 = c.at_attributes-goes-in-Return in
     let d1 = c.at_optional_expression in
-    viewed _ _ (ap statement_view b.is ∙ view_Return b.attributes b.expression) (view_Return d0.new.attributes d1.new.node)
+    viewed _ _ (ap statement_view b.is ∙ view_return b.attributes b.expression) (view_return d0.new.attributes d1.new.node)
     (inside (kind return) refl refl (beside (from attributes_tree b.attributes-is d0.ensures) (from (optional expression_tree) b.expression-is d1.ensures)))
 
 pub in_statement-returns-in-Discard : goal.in_statement-returns-in-Discard
@@ -134,7 +135,7 @@ unfolding out-Statement denote.Hole.Carrier.out
 in_statement-returns-in-Discard g t c =
     let b = c.in-Discard in
     let d0 = c.at_attributes-in-Discard in
-    rw b.is (viewed _ _ (view_Discard b.attributes) (view_Discard d0.new.attributes)
+    rw b.is (viewed _ _ (view_discard b.attributes) (view_discard d0.new.attributes)
     (inside (kind discard) refl refl (from attributes_tree b.attributes-is d0.ensures)))
 
 pub in_statement-returns-in-FunctionCall : goal.in_statement-returns-in-FunctionCall
@@ -142,7 +143,7 @@ in_statement-returns-in-FunctionCall g t c =
     let b = c.in-FunctionCall in
     let d0 = c.at_attributes-goes-in-FunctionCall in
     let d1 = c.in_call in
-    viewed _ _ (ap statement_view b.is ∙ view_FunctionCall b.attributes b.call) (view_FunctionCall d0.new.attributes d1.new.call)
+    viewed _ _ (ap statement_view b.is ∙ view_call_statement b.attributes b.call) (view_call_statement d0.new.attributes d1.new.call)
     (inside (kind call_statement) refl refl (beside (from attributes_tree b.attributes-is d0.ensures) (from call_view b.call-is d1.ensures)))
 
 pub in_statement-returns-in-ConstAssert : goal.in_statement-returns-in-ConstAssert
@@ -150,7 +151,7 @@ unfolding out-Statement denote.Hole.Carrier.out
 in_statement-returns-in-ConstAssert g t c =
     let b = c.in-ConstAssert in
     let d0 = c.in_assert in
-    rw b.is (viewed _ _ (view_ConstAssert b.assertion) (view_ConstAssert d0.new.assertion)
+    rw b.is (viewed _ _ (view_const_assert b.assertion) (view_const_assert d0.new.assertion)
     (from assert_view b.assertion-is d0.ensures))
 
 pub in_statement-returns-in-Declaration : goal.in_statement-returns-in-Declaration
@@ -158,7 +159,7 @@ unfolding out-Statement denote.Hole.Carrier.out
 in_statement-returns-in-Declaration g t c =
     let b = c.in-Declaration in
     let d0 = c.in_declaration in
-    rw b.is (viewed _ _ (view_Declaration b.declaration) (view_Declaration d0.new.declaration)
+    rw b.is (viewed _ _ (view_local b.declaration) (view_local d0.new.declaration)
     (from declaration_view b.declaration-is d0.ensures))
 
 pub in_compound-returns : goal.in_compound-returns
