@@ -12,6 +12,7 @@ use Rattle.wesl_cond_chains.specs.Picked.{Choice, chosen, is_true, picked_chain}
 use Rattle.wesl_tree_syntax.specs.Tree.{ForestOf, end, tree}
 use Rattle.wesl_cond_alive.specs.Kept.{is_faultless, kept_chain, kept_list}
 use Rattle.wesl_cond_alive.specs.Sound.{Outline, are_clean, outline_of, is_conditional, opens_chain, is_rest_sound, is_chain_sound, is_whole}
+use mathlib.Core.Bool.{and-false}
 
 -- what becomes of a node: it goes, or stays as it is, or stays without its condition
 pub data Verdict : Type 0 where
@@ -40,10 +41,6 @@ faultless_both (x ∷ xs) ys = refl
 and_right : (a b c : Bool) → (a && (b && c)) ≡ ((a && b) && c)
 and_right true b c = refl
 and_right false b c = refl
-
-and_false : (b : Bool) → (b && false) ≡ false
-and_false true = refl
-and_false false = refl
 
 module _ {I : Type 0} where
   abbrev formulas : List (Condition I) → List (Fault I)
@@ -94,7 +91,7 @@ module _ {I : Type 0} where
   node_sound : (opened : Bool) (cs : List (Condition I)) (c : Condition I) → AreHeaded cs c → (rest : Bool → Bool) → rest_is opened cs rest ≡ (fits opened c && (are_clean cs && rest (opens_chain c)))
   node_sound opened [] c unheaded rest = refl
   node_sound opened (c ∷ []) d (headed e) rest = rw (one_fits opened c, one_opens c, faultless_both (condition_faults (λ flag. Keep) c) []) refl
-  node_sound opened (c ∷ d ∷ cs) b (headed e) rest = rw (two_fail opened c d cs e, and_false (is_faultless (condition_faults (λ flag. Keep) c))) (sym (and_false (fits opened c)))
+  node_sound opened (c ∷ d ∷ cs) b (headed e) rest = rw (two_fail opened c d cs e, and-false (is_faultless (condition_faults (λ flag. Keep) c))) (sym (and-false (fits opened c)))
 
   module _ {N : Type 0} (J : Judged I N) (as_element : N → Element I) where
     abbrev outline : N → Outline I

@@ -4,14 +4,11 @@ use Rattle.wesl_cond_chains.specs.Residual.{residual_forest, residual_tree}
 use Rattle.wesl_cond_chains.proofs.Natural.{through_natural}
 use Rattle.wesl_cond_features.specs.Answers.{Answers}
 use Rattle.wesl_tree_syntax.specs.Tree.{Label, Forest, Tree, LabelOf, ForestOf, end, tree, ident, truth, label_below, forest_below, tree_below, respell_label, respell_forest}
+use Rattle.std.proofs.lemmas.Bool.{and_parts}
 
 -- a number of a table of n names, as itself
 abbrev within : ℕ → ℕ → Option ℕ
 within n i = cond (nat_lt i n) (Some i) None
-
-both_true : (a b : Bool) → (a && b) ≡ true → (a ≡ true) × (b ≡ true)
-both_true true b h = (refl, h)
-both_true false b h = cc
 
 label_same : (n : ℕ) (l : Label) → label_below n l ≡ true → respell_label (within n) l ≡ respell_label Some l
 label_same n (ident s i) h = ap (λ b. ident s (cond b (Some i) None)) h
@@ -20,8 +17,8 @@ label_same n l h = refl
 forest_same : (n : ℕ) (f : Forest) → forest_below n f ≡ true → respell_forest (within n) f ≡ respell_forest Some f
 forest_same n end h = refl
 forest_same n (tree l c o) h =
-    let front = both_true (label_below n l && forest_below n c) (forest_below n o) h in
-    let parts = both_true (label_below n l) (forest_below n c) front.0 in
+    let front = and_parts (label_below n l && forest_below n c) (forest_below n o) h in
+    let parts = and_parts (label_below n l) (forest_below n c) front.0 in
     rw (label_same n l parts.0, forest_same n c parts.1, forest_same n o front.1) refl
 
 abbrev label_of : ForestOf (Option ℕ) → LabelOf (Option ℕ)

@@ -21,14 +21,11 @@ use Rattle.wesl_cond_chains.specs.FormulaFaults.{Fault}
 use Rattle.wesl_cond_features.specs.Features.{Replies, known, HoldsNoError, then_replies}
 use Rattle.wesl_tree_syntax.specs.Tree.{LabelOf, ForestOf, end, tree, kind, compound, statements}
 use Rattle.wesl_tree_syntax.specs.Unit.{UnitOf, forest_of_unit}
+use Rattle.std.proofs.lemmas.Bool.{and_parts}
 
 not_compound : {I : Type 0} (l : LabelOf I) (held : Bool) → (is_list l && not (is_statements l && held)) ≡ true → is_compound l ≡ false
 not_compound (kind compound) held e = cc
 not_compound l held e = refl
-
-both_true : (a b : Bool) → (a && b) ≡ true → (a ≡ true) × (b ≡ true)
-both_true true b h = (refl, h)
-both_true false b h = cc
 
 -- The shapes of what a loop or a continuing block holds.
 module _ {I : Type 0} where
@@ -274,7 +271,7 @@ module _ {I : Type 0} (first second : Replies I) (h : HoldsNoError second) where
 
   pair_on : (a : LabelOf I) (x : ForestOf I) (b : LabelOf I) (body : ForestOf I) (o : LabelOf I) (last others : ForestOf I) (p : Bool) → (is_compound b && is_option o) ≡ p → BothGoOn (tree a x (tree b body (tree o last others)))
   pair_on a x b body o last others true e =
-      let parts = both_true (is_compound b) (is_option o) e in
+      let parts = and_parts (is_compound b) (is_option o) e in
       subst (λ l. BothGoOn (tree a x (tree l body (tree o last others)))) (sym (compound_is b parts.0)) (bodies_on a x body o last others parts.1)
   pair_on a x b body o last others false e =
       let c = tree a x (tree b body (tree o last others)) in
@@ -388,7 +385,7 @@ module _ {I : Type 0} (first second : Replies I) (e : HoldsNoError first) (h : H
 
   pair_in_both : (a : LabelOf I) (x : ForestOf I) (b : LabelOf I) (body : ForestOf I) (o : LabelOf I) (last others : ForestOf I) (p : Bool) → (is_compound b && is_option o) ≡ p → InsideInBoth (tree a x (tree b body (tree o last others)))
   pair_in_both a x b body o last others true e =
-      let parts = both_true (is_compound b) (is_option o) e in
+      let parts = and_parts (is_compound b) (is_option o) e in
       subst (λ l. InsideInBoth (tree a x (tree l body (tree o last others)))) (sym (compound_is b parts.0)) (bodies_in_both a x body o last others parts.1)
   pair_in_both a x b body o last others false e = unchanged_in_both (tree a x (tree b body (tree o last others))) (λ f. apart_same f a x b body o last others e)
 

@@ -13,6 +13,7 @@ use Rattle.std.specs.Ordering.{nat_cmp}
 use Rattle.std.proofs.lemmas.List.Folds.{list_any-append}
 use Rattle.std.proofs.lemmas.Map.Text.{btree_map_updates_text, is_eq-slice_cmp}
 use Rattle.std.specs.declared.alloc.Global.{Global}
+use mathlib.Core.Bool.{or-false}
 
 abbrev names : {X : Type 0} → List ℕ → List (String Global × X) → Bool
 names q es = list_any (λ k. bytes_eq q (string_bytes k)) (keys_of es)
@@ -38,10 +39,6 @@ any_borrowed p (x ∷ xs) = ap (λ b. p x.now || b) (any_borrowed p xs)
 pub names_borrowed : {X : Type 0} (q : List ℕ) (xs : List (Bor (String Global))) (es : List (String Global × X)) → map deref xs ≡ keys_of es → list_any (λ k. bytes_eq q (string_bytes k.now)) xs ≡ is_some (finds q es)
 names_borrowed q xs es all = any_borrowed (λ k. bytes_eq q (string_bytes k)) xs ∙ ap (list_any (λ k. bytes_eq q (string_bytes k))) all ∙ names_found q es
 
-or_false : (b : Bool) → (b || false) ≡ b
-or_false true = refl
-or_false false = refl
-
 -- What f answers for each name that was listed, and for one name more.
 module _ {Y : Type 0} (f : List ℕ → Y) (q : List ℕ) (new old first : Option Y) where
   by_name : (bs : List ℕ) (b e : Bool) → bytes_eq bs q ≡ e → new ≡ cond e (Some (f bs)) old → old ≡ cond b (Some (f q)) first → new ≡ cond (b || bytes_eq q bs) (Some (f q)) first
@@ -54,7 +51,7 @@ module _ {Y : Type 0} (f : List ℕ → Y) (q : List ℕ) (new old first : Optio
       → old ≡ cond (list_any (λ l. bytes_eq q (string_bytes l.now)) ks) (Some (f q)) first → new ≡ cond (list_any (λ l. bytes_eq q (string_bytes l.now)) (ks ++ k ∷ [])) (Some (f q)) first
   one_more_answer ks k n o =
       by_name (string_bytes k.now) (list_any (λ l. bytes_eq q (string_bytes l.now)) ks) _ refl n o
-      ∙ sym (ap (λ b. cond b (Some (f q)) first) (list_any-append (λ l. bytes_eq q (string_bytes l.now)) ks (k ∷ []) ∙ ap (λ b. list_any (λ l. bytes_eq q (string_bytes l.now)) ks || b) (or_false (bytes_eq q (string_bytes k.now)))))
+      ∙ sym (ap (λ b. cond b (Some (f q)) first) (list_any-append (λ l. bytes_eq q (string_bytes l.now)) ks (k ∷ []) ∙ ap (λ b. list_any (λ l. bytes_eq q (string_bytes l.now)) ks || b) (or-false (bytes_eq q (string_bytes k.now)))))
 
 -- a text that was put into a map is found there, and each other one as before
 pub text_added : {X V E : Type 0} (m n : BTreeMap (String Global) X) (k : String Global) (bs : List ℕ) (v : X) (r : Result V E) (b : Bool) → b ≡ is_ok r → OnOk r (Updates string_cmp m n k (Some v)) → string_bytes k ≡ bs

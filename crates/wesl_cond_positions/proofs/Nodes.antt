@@ -26,14 +26,7 @@ use Rattle.wesl_cond_positions.specs.declared.lookup.Lookup.{Lookup}
 use Rattle.wesl_cond_positions.proofs.Fields.{IsJudged, alone, below, from_tree, judged_at, leaf_at, no_element, this_element, through_span}
 use Rattle.wesl_cond_positions.proofs.Numbers.{found_as, kept_number, none_past}
 use Rattle.wesl_tree_syntax.proofs.Views.{view_compound}
-
-and_false : (b : Bool) → (b && false) ≡ false
-and_false true = refl
-and_false false = refl
-
-and_true : (b : Bool) → (b && true) ≡ b
-and_true true = refl
-and_true false = refl
+use mathlib.Core.Bool.{and-false, and-true}
 
 pub selector_leaf : (x : CaseSelector) → is_entered (selector_view x).label ≡ false
 selector_leaf selectors.Default = refl
@@ -89,7 +82,7 @@ module _ (look : Lookup) where
         let h : length xs ≤ i = omega arith in
         found_as look r (λ choice. false) (λ choice. from_tree choice p (listed_tree xs))
         (λ choice. sym (ap (λ z. from_tree choice z (listed_tree xs)) e ∙ judged_at choice k (judged choice) i q (forest_of (map view xs))
-        ∙ ap (λ s. has (kept_indexes choice (elements false (forest_of (map view xs)))) i && s) (no_element choice view None i q xs h) ∙ and_false _)) found
+        ∙ ap (λ s. has (kept_indexes choice (elements false (forest_of (map view xs)))) i && s) (no_element choice view None i q xs h) ∙ and-false _)) found
 
 -- ---- bodies whose lists are judged with what closes them
 
@@ -176,7 +169,7 @@ module _ {X : Type 0} (view : X → Tree) where
         in_last q a b ts None
         ∙ ap (λ s. s && from_tree choice q (optional view None)) (none_there ts)
         ∙ sym (none_there ts)
-    in_last_leaf e q a b ts (Some x) = in_last q a b ts (Some x) ∙ ap (λ s. has (kept_indexes choice (both_of ts (Some x))) (length ts) && s) (leaf_there e q x) ∙ and_true _
+    in_last_leaf e q a b ts (Some x) = in_last q a b ts (Some x) ∙ ap (λ s. has (kept_indexes choice (both_of ts (Some x))) (length ts) && s) (leaf_there e q x) ∙ and-true _
 
 -- ---- loops and continuing blocks
 
@@ -200,7 +193,7 @@ module _ (look : Lookup) where
     no_statement_found i p q r le d found e =
         let h : length ss ≤ i = omega arith in
         found_as look r (λ choice. false) (λ choice. in_held choice p)
-        (λ choice. sym (held_is choice i p q e ∙ ap (λ s. has (kept_indexes choice xs) i && s) (no_element choice statement_tree None i q ss h) ∙ and_false _)) found
+        (λ choice. sym (held_is choice i p q e ∙ ap (λ s. has (kept_indexes choice xs) i && s) (no_element choice statement_tree None i q ss h) ∙ and-false _)) found
 
   module _ {X : Type 0} (view : X → Tree) (k : Kind) (closing : IsClosing k) (t : Tree) (a : Vec (Spanned Attribute)) (body : CompoundStatement) (o : Option X)
       (is : t ≡ branch k (attributes_tree a ∷ compound_view body ∷ optional view o ∷ [])) where
@@ -240,12 +233,12 @@ module _ {X : Type 0} (view : X → Tree) (leaf : (x : X) → is_entered (view x
   leaf_kept choice (i ∷ p) xs =
       let kept = has (kept_indexes choice (elements false (forest_of (map view xs)))) i in
       elim (cases_lt i (length xs)) [
-        | inl h ↦ sym (judged_at choice k (judged choice) i p (forest_of (map view xs)) ∙ ap (λ s. kept && s) (leaf_at choice view leaf i p xs ∙ lt-ltb i (length xs) h) ∙ and_true kept)
+        | inl h ↦ sym (judged_at choice k (judged choice) i p (forest_of (map view xs)) ∙ ap (λ s. kept && s) (leaf_at choice view leaf i p xs ∙ lt-ltb i (length xs) h) ∙ and-true kept)
         | inr h ↦
             kept_number choice (elements false (forest_of (map view xs))) i
             ∙ none_past choice (map outline_of (elements false (forest_of (map view xs)))) i
             (omega (arith, length-map (elements {I = ℕ} false (forest_of (map view xs))) (outline_of {I = ℕ}), length_elements (map view xs), length-map xs view))
-            ∙ sym (judged_at choice k (judged choice) i p (forest_of (map view xs)) ∙ ap (λ s. kept && s) (no_element choice view None i p xs h) ∙ and_false kept)
+            ∙ sym (judged_at choice k (judged choice) i p (forest_of (map view xs)) ∙ ap (λ s. kept && s) (no_element choice view None i p xs h) ∙ and-false kept)
       ]
 
   pub leaf_found : (look : Lookup) (xs : List X) (p : List ℕ) (r : Result Choices AllocError) → IfOk r (IsFound look (λ choice. keeps_leaf choice p (forest_of (map view xs)))) → Finds look p (branch k (map view xs)) r

@@ -17,6 +17,7 @@ use Rattle.wesl_cond_alive.specs.declared.outline.Outline as code
 use Rattle.wesl_cond_alive.proofs.Turns.{IsTold, Verdict, goes, stays, picked, verdict, verdicts, all_become, kept_is}
 use Rattle.wesl_cond_positions.specs.Found.{IsFound, choice_in, free_after, keeps_node}
 use Rattle.wesl_cond_positions.specs.declared.lookup.Lookup.{Lookup}
+use mathlib.Core.Bool.{and-false, and-true, or-false}
 
 abbrev stands : Verdict → Bool
 stands goes = false
@@ -33,18 +34,6 @@ stays_past : (vs : List Verdict) (i : ℕ) → length vs ≤ i → stays_at vs i
 stays_past [] i h = refl
 stays_past (v ∷ vs) zero h = absurd (omega arith)
 stays_past (v ∷ vs) (suc i) h = stays_past vs i (omega arith)
-
-and_true : (b : Bool) → (b && true) ≡ b
-and_true true = refl
-and_true false = refl
-
-or_false : (b : Bool) → (b || false) ≡ b
-or_false true = refl
-or_false false = refl
-
-and_false : (b : Bool) → (b && false) ≡ false
-and_false true = refl
-and_false false = refl
 
 module _ {I : Type 0} (choice : Choice I) where
   pub told : IsTold numbered_element (λ (x : Element I × ℕ). x.0)
@@ -68,17 +57,17 @@ module _ {I : Type 0} (choice : Choice I) where
   none_below (v ∷ vs) [] n j h = refl
   none_below (v ∷ vs) (x ∷ xs) n j h =
       head_is v x n j vs (numbered_from (suc n) xs)
-      ∙ rw (ne_eqb j n (λ e. omega arith), none_below vs xs (suc n) j (omega arith)) (rw (and_false (stands v)) refl)
+      ∙ rw (ne_eqb j n (λ e. omega arith), none_below vs xs (suc n) j (omega arith)) (rw (and-false (stands v)) refl)
 
   numbers_are : (vs : List Verdict) (xs : List (Element I)) (n i j : ℕ) → length vs ≡ length xs → j ≡ n + i → has (numbers_of vs (numbered_from n xs)) j ≡ stays_at vs i
   numbers_are [] xs n i j e d = refl
   numbers_are (v ∷ vs) [] n i j e d = absurd (omega arith)
   numbers_are (v ∷ vs) (x ∷ xs) n zero j e d =
       head_is v x n j vs (numbered_from (suc n) xs)
-      ∙ rw (eq-eqb j n (omega arith), none_below vs xs (suc n) j (omega arith)) (rw (and_true (stands v)) (or_false (stands v)))
+      ∙ rw (eq-eqb j n (omega arith), none_below vs xs (suc n) j (omega arith)) (rw (and-true (stands v)) (or-false (stands v)))
   numbers_are (v ∷ vs) (x ∷ xs) n (suc i) j e d =
       head_is v x n j vs (numbered_from (suc n) xs)
-      ∙ rw (ne_eqb j n (λ k. omega arith), numbers_are vs xs (suc n) i j (omega arith) (omega arith)) (rw (and_false (stands v)) refl)
+      ∙ rw (ne_eqb j n (λ k. omega arith), numbers_are vs xs (suc n) i j (omega arith) (omega arith)) (rw (and-false (stands v)) refl)
 
   outlines_are : (n : ℕ) (xs : List (Element I)) → map (λ (x : Element I × ℕ). outline_of x.0) (numbered_from n xs) ≡ map outline_of xs
   outlines_are n [] = refl

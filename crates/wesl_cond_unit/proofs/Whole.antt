@@ -16,6 +16,7 @@ use Rattle.wesl_tree_syntax.specs.declared.declaration.GlobalDirective.{GlobalDi
 use Rattle.wesl_tree_syntax.specs.declared.import.ImportStatement.{ImportStatement}
 use Rattle.wesl_tree_syntax.specs.declared.span.Spanned.{Spanned}
 use Rattle.wesl_tree.specs.Parts.{parts_view}
+use Rattle.std.proofs.lemmas.Bool.{and_parts}
 
 abbrev with_trees : List Text → UnitOf ℕ → UnitView
 with_trees names t = record { names = names; imports = t.imports; directives = t.directives; declarations = t.declarations }
@@ -38,17 +39,13 @@ past (x ∷ xs) (suc i) h = past xs i (omega arith)
 not_below : (i n : ℕ) → nat_lt i n ≡ false → n ≤ i
 not_below i n h = grind (arith, nat_tests)
 
-both_true : (a b : Bool) → (a && b) ≡ true → (a ≡ true) × (b ≡ true)
-both_true true b h = (refl, h)
-both_true false b h = cc
-
 pub left_below : LeftStaysWithin → (reply : Replies Text) (u : UnitView) → unit_below u ≡ true → unit_below (left_of reply u) ≡ true
 left_below within reply u h =
     let n = length u.names in
     let k = known (by_number u.names reply) in
     let outside : (i : ℕ) → nat_lt i n ≡ false → k i ≡ k n = λ i e. ap (λ t. says (reply t)) (past u.names i (not_below i n e) ∙ sym (past u.names n (omega arith))) in
-    let front = both_true (tree_below n u.imports && tree_below n u.directives) (tree_below n u.declarations) h in
-    let parts = both_true (tree_below n u.imports) (tree_below n u.directives) front.0 in
+    let front = and_parts (tree_below n u.imports && tree_below n u.directives) (tree_below n u.declarations) h in
+    let parts = and_parts (tree_below n u.imports) (tree_below n u.directives) front.0 in
     rw (within n k u.imports outside parts.0, within n k u.directives outside parts.1, within n k u.declarations outside front.1) refl
 
 pub not_outside : (b : Bool) → b ≡ true → b ≡ false → ⊥

@@ -21,6 +21,7 @@ use Rattle.wesl_json_form.specs.Keys.{all_known, has_only}
 use Rattle.wesl_json_form.specs.Place.{Field, field, fields, head_fields, find_field, member_form, item_form, IsWrongLeaf, IsWrongNode, IsWrongValue, IsWrongObject, IsWrong, HasUnknownWord, BreaksAt, is_needed}
 use Rattle.wesl_json_form.specs.Pointer.{Part, key, index}
 use Rattle.wesl_json_form.specs.Laws.{BrokenIsRefused, WholeFormRefuses}
+use mathlib.Core.Bool.{and-false, or-true}
 
 abbrev Holds : Field → List Field → Type 0
 Holds f [] = ⊥
@@ -215,14 +216,6 @@ module _ (table : Table) where
 or-case : (a b : Bool) → (a || b) ≡ true → (a ≡ true) ⊎ (b ≡ true)
 or-case true b h = inl refl
 or-case false b h = inr h
-
-and-false : (b : Bool) → (b && false) ≡ false
-and-false true = refl
-and-false false = refl
-
-or-true : (b : Bool) → (b || true) ≡ true
-or-true true = refl
-or-true false = refl
 
 abbrev has : Text → List Text → Bool
 has k ks = list_any (λ x. bytes_eq x k) ks

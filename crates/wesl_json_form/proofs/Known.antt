@@ -12,6 +12,7 @@ use Rattle.wesl_json_form.specs.View.{borrowed_view, key_text, members_view, put
 use Rattle.wesl_json_form.specs.declared.key.Key.{Key}
 use Rattle.wesl_json_form.specs.declared.value.BorrowedValue.{BorrowedValue}
 use Rattle.wesl_json_form.specs.Keys.{all_known, keys_beside}
+use mathlib.Core.Bool.{and-true}
 
 abbrev pub Entry : Type 0
 Entry = Key × BorrowedValue
@@ -47,10 +48,6 @@ moved true false c = refl
 moved false true c = refl
 moved false false c = refl
 
-and_true : (a : Bool) → (a && true) ≡ a
-and_true true = refl
-and_true false = refl
-
 known-put_at : (o : Ordering) (known : List Text) (k l : Text) (d e : Data) (ms : Members) → (o ≡ Equal → k ≡ l) → all_known known (put k d ms) ≡ (is_known known k && all_known known ms)
     → all_known known (match_ordering o (member k d (member l e ms)) (member l d ms) (member l e (put k d ms))) ≡ (is_known known k && (is_known known l && all_known known ms))
 known-put_at Less known k l d e ms same later = refl
@@ -75,7 +72,7 @@ known-put_all known (e ∷ es) found =
     ∙ moved (keys_known known es) (is_known known (key_text e.0)) (all_known known found)
 
 pub known-members : (known : List Text) (es : List Entry) → keys_known known es ≡ all_known known (members_view es)
-known-members known es = sym (known-put_all known es no_members ∙ and_true (keys_known known es))
+known-members known es = sym (known-put_all known es no_members ∙ and-true (keys_known known es))
 
 pub known-next : (known : List Text) (es : List Entry) (i : ℕ) (e : Entry) → i < length es → e ≡ get_or es i e → keys_known known (drop i es) ≡ (is_known known (key_text e.0) && keys_known known (drop (i + 1) es))
 known-next known es i e low is = rw (drop-cons es i e low, ← is, add-one) refl

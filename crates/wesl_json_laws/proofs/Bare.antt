@@ -10,6 +10,7 @@ use Rattle.wesl_json_form.specs.Schema.{SpelledForest, SpelledLabel, Words, look
 use Rattle.wesl_json_form.specs.Nodes.{NodeWords, by_word, nodes_of, all_expression_words, type_or_identifier_node, directive_words, declaration_words, statement_words, all_attribute_words, a_default_case, item_node, collection_node}
 use Rattle.wesl_json_form.specs.Writing.{fits_head, fits_row, first_fit, candidates}
 use Rattle.wesl_json_laws.specs.Places.{is_place}
+use mathlib.Core.Bool.{and-true}
 
 abbrev pub is_unit : Name → Bool
 is_unit a_unit = true
@@ -151,13 +152,9 @@ under_bare h (given l row) = refl
 under_bare h (inner i ins row) = refl
 under_bare h (inner_where k i ins row) = refl
 
-and_true : (a : Bool) → (a && true) ≡ a
-and_true true = refl
-and_true false = refl
-
 within_bare : (k : Kind) (o : Option Node) → if_bare o ≡ true → if_bare (option_map (within k) o) ≡ true
 within_bare k None h = refl
-within_bare k (Some n) h = under_bare n.head n.row ∙ ap (λ b. bare_head n.head && b) (and_true (bare_row n.row)) ∙ h
+within_bare k (Some n) h = under_bare n.head n.row ∙ ap (λ b. bare_head n.head && b) (and-true (bare_row n.row)) ∙ h
 
 content_bare : (b : Bool) (d : Data) → bare_node (if b then collection_node else item_node d) ≡ true
 content_bare true d = refl

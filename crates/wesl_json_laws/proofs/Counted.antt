@@ -11,9 +11,10 @@ use Rattle.wesl_json_light.proofs.Rows.{keys, own_keys, span_key, members_of, is
 use Rattle.wesl_json_light.proofs.Keys.{distinct, first_apart, others_apart, here, later, in_left, in_right, left_apart, right_apart, not_right}
 use Rattle.wesl_json_light.proofs.Fitting.{IsLeaf, an_identifier, literal_text, free_text, name_text, names_text, path_text, a_word, HasHead, node_with, label_shown, word_key, with_word, put_word, IsPlainRow, Fits, a_leaf, a_list, plain_node, recast_node, worded_node, node_at, node_around, unit_node, short_node, AreFits, no_more, one_more, FitsRow, all_there, needed, left_out, put_in, listed, named, told, within, nowhere, somewhere, tree_of}
 use Rattle.wesl_json_laws.specs.Places.{is_place, has_place}
-use Rattle.wesl_json_laws.proofs.Numbers.{or_assoc, or_false, join, put_number, put_there}
+use Rattle.wesl_json_laws.proofs.Numbers.{or_assoc, join, put_number, put_there}
 use Rattle.wesl_json_laws.proofs.Bare.{is_unit, is_bare, bare_leaf, bare_form, bare_head, bare_row, bare_node, if_bare, and_left, and_right, not_true, written_bare, read_bare}
 use Rattle.wesl_json_laws.proofs.Short.{are_named, below_named, after_named, alone_named, IfBare, look_bare, short_form}
+use mathlib.Core.Bool.{or-false}
 
 -- ---- leaves
 
@@ -169,7 +170,7 @@ nothing_fresh q = refl
 mutual
   pub fits_number : {p : SpelledLabel} {f : Form} {t : Spelled} → Fits true p f t → bare_form f ≡ true → are_named (before t end) ≡ true → has_number (written true f t) ≡ has_place (before t end)
   fits_number (a_leaf {l = l} {f = f} is) bare names = leaf_number f l ∙ sym (alone l (leaf_place is bare))
-  fits_number (a_list {k = k} {m = m} {ts = ts} his) bare names = items_number his bare (below_named (kind k) ts end names) ∙ sym (or_false (has_place ts))
+  fits_number (a_list {k = k} {m = m} {ts = ts} his) bare names = items_number his bare (below_named (kind k) ts end names) ∙ sym (or-false (has_place ts))
   fits_number (plain_node {l = l} {m = m} {ts = ts} row picked plain read fine hs) bare names =
       let n : bare_node (node_with l row) ≡ true = subst (λ o. if_bare o ≡ true) picked.fits (written_bare m l ts (not_true (is_unit m) bare)) in
       value_number m l ts (node_with l row) picked.long picked.fits ∙ ap members_have_number (plain_members row ts plain)
@@ -206,7 +207,7 @@ mutual
       let fresh = span_out word_key true l others refl ∙ fresh_key word_key row ts no_members apart (λ q x. nothing_fresh q) in
       let inside = row_number hs own (below_named l ts end (below_named (kind outer) held end names)) no_members (others_apart word_key (keys row) apart) (λ q x. nothing_fresh q) in
       value_number m (kind outer) held _ picked.long picked.fits ∙ ap members_have_number (held_members w k l row ts)
-      ∙ put_word_number w (put_span true l others) fresh ∙ span_number k o.0 o.1 others ∙ ap (λ b. is_place l || b) inside ∙ or_assoc (is_place l) (has_place ts) false ∙ sym (or_false (is_place l || has_place ts || false))
+      ∙ put_word_number w (put_span true l others) fresh ∙ span_number k o.0 o.1 others ∙ ap (λ b. is_place l || b) inside ∙ or_assoc (is_place l) (has_place ts) false ∙ sym (or-false (is_place l || has_place ts || false))
   fits_number (unit_node {m = m} {ts = ts} k row picked plain read hs) bare names =
       let n : false ≡ true = subst (λ o. if_bare o ≡ true) picked.fits (written_bare m (kind k) ts (not_true (is_unit m) bare)) in
       absurd (let x : ⊥ = cc in x)

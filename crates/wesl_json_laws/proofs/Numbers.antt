@@ -6,6 +6,7 @@ use Rattle.serde_json.specs.Data.{Data, Members, no_members, member, put}
 use Rattle.serde_json.specs.Find.{get_member}
 use Rattle.wesl_tree_names.specs.Path.{Text}
 use Rattle.wesl_json_light.specs.Numbers.{has_number, members_have_number}
+use Rattle.std.proofs.lemmas.Bool.{or_right}
 
 or_swap : (a b c : Bool) → (a || (b || c)) ≡ (b || (a || c))
 or_swap true true c = refl
@@ -16,10 +17,6 @@ or_swap false false c = refl
 pub or_assoc : (a b c : Bool) → (a || (b || c)) ≡ ((a || b) || c)
 or_assoc true b c = refl
 or_assoc false b c = refl
-
-pub or_false : (a : Bool) → (a || false) ≡ a
-or_false true = refl
-or_false false = refl
 
 -- a tree alone, and those after it
 pub join : (a b c : Bool) → ((a || b || false) || c) ≡ (a || b || c)
@@ -39,15 +36,11 @@ pub put_number : (k : Text) (d : Data) (ms : Members) → get_member k ms ≡ No
 put_number k d no_members out = refl
 put_number k d (member l e ms) out = put_at (slice_cmp nat_cmp k l) k l d e ms out (put_number k d ms)
 
-either_true : (a b : Bool) → b ≡ true → (a || b) ≡ true
-either_true true b is = refl
-either_true false b is = is
-
 there_at : (o : Ordering) (k l : Text) (d e : Data) (ms : Members) → has_number d ≡ true → members_have_number (put k d ms) ≡ true
     → members_have_number (match_ordering o (member k d (member l e ms)) (member l d ms) (member l e (put k d ms))) ≡ true
 there_at Less k l d e ms is more = rw is refl
 there_at Equal k l d e ms is more = rw is refl
-there_at Greater k l d e ms is more = either_true (has_number e) (members_have_number (put k d ms)) more
+there_at Greater k l d e ms is more = or_right (has_number e) (members_have_number (put k d ms)) more
 
 -- a member that has a number, at any key
 pub put_there : (k : Text) (d : Data) (ms : Members) → has_number d ≡ true → members_have_number (put k d ms) ≡ true

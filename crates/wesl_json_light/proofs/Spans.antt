@@ -2,7 +2,7 @@
 use Rattle.std.proofs.Common.{◌≡◌, ◌⊎◌, ℕ, List, [], Bool, true, false, not, ◌&&◌, if◌then◌else◌, Option, Some, None, option_map, refl, ap, ◌∙◌, inl, inr}
 use Rattle.std.specs.Prelude.{nat_le, ◌==◌}
 use Rattle.std.specs.Option.{is_some}
-use Rattle.std.proofs.lemmas.Bool.{eqb-true}
+use Rattle.std.proofs.lemmas.Bool.{and_parts, eqb-true}
 use Rattle.serde_json.specs.Data.{Data, object, Members, put}
 use Rattle.serde_json.specs.Find.{get_member}
 use Rattle.serde_json.proofs.Views.{get_member-put}
@@ -18,13 +18,8 @@ use Rattle.wesl_json_light.proofs.Rows.{span_key, is_in}
 use Rattle.wesl_json_light.proofs.Keys.{here, known_put}
 use Rattle.wesl_json_light.proofs.Fitting.{label_shown}
 
-both_true : (a b : Bool) → (a && b) ≡ true → (a ≡ true) × (b ≡ true)
-both_true true b h = (refl, h)
-both_true false true h = (h, refl)
-both_true false false h = (h, h)
-
 nowhere_zeros : (s e : ℕ) → is_nowhere s e ≡ true → (s ≡ 0) × (e ≡ 0)
-nowhere_zeros s e is = let h = both_true (s == 0) (e == 0) is in (eqb-true s 0 h.0, eqb-true e 0 h.1)
+nowhere_zeros s e is = let h = and_parts (s == 0) (e == 0) is in (eqb-true s 0 h.0, eqb-true e 0 h.1)
 
 -- a span is no place, or is written
 nowhere_or_placed : (s e : ℕ) → ((s ≡ 0) × (e ≡ 0)) ⊎ (is_nowhere s e ≡ false)

@@ -7,6 +7,7 @@ use Rattle.serde_json.specs.Written.{has_float, items_have_float, members_have_f
 use Rattle.wesl_tree_names.specs.Path.{Text}
 use Rattle.wesl_json_light.specs.Readable.{HaveNoFloat}
 use Rattle.wesl_json_light.proofs.Held.{IsKept, unit_kept}
+use Rattle.std.proofs.lemmas.Bool.{or_from}
 
 abbrev Whole : Data → Type 0
 Whole d = has_float d ≡ false
@@ -37,9 +38,6 @@ put_whole k d (member l e ms) a b =
     let r = second_false (has_float e) (members_have_float ms) b in
     put_at (slice_cmp nat_cmp k l) k l d e ms a c r (put_whole k d ms a r)
 
-both_false : (a b : Bool) → a ≡ false → b ≡ false → (a || b) ≡ false
-both_false a b h k = rw (h, k) refl
-
 whole_kept : IsKept Whole WholeItems WholeMembers
 whole_kept = record {
   of_null = refl;
@@ -49,7 +47,7 @@ whole_kept = record {
   of_list = λ ds h. h;
   of_object = λ ms h. h;
   of_no_items = refl;
-  of_item = λ d ds h k. both_false (has_float d) (items_have_float ds) h k;
+  of_item = λ d ds h k. or_from (has_float d) (items_have_float ds) h k;
   of_no_members = refl;
   of_put = put_whole;
 }

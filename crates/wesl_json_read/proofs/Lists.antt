@@ -1,5 +1,5 @@
 -- What is read of a list, item by item.
-use Rattle.std.proofs.Common.{◌≡◌, ◌&&◌, Bool, true, false, ℕ, suc, zero, ◌+◌, ◌<◌, ◌≤◌, List, [], ◌∷◌, ◌++◌, length, get_or, map, take, Option, Some, None, option_map, option_and_then, refl, sym, ap, ◌∙◌, subst, append_assoc, arith}
+use Rattle.std.proofs.Common.{◌≡◌, ◌&&◌, Bool, true, ℕ, suc, zero, ◌+◌, ◌<◌, ◌≤◌, List, [], ◌∷◌, ◌++◌, length, get_or, map, take, Option, Some, None, option_map, option_and_then, refl, sym, ap, ◌∙◌, subst, append_assoc, arith}
 use Rattle.std.proofs.lemmas.List.{take_more, take_all}
 use Rattle.serde_json.specs.Data.{Data, depth}
 use Rattle.serde_json.specs.Find.{as_array}
@@ -15,6 +15,7 @@ use Rattle.wesl_json_form.specs.Units.{NumberedFrom}
 use Rattle.wesl_json_form.specs.Nodes.{whole_form}
 use Rattle.wesl_json_read.specs.Numbers.{IsReadAs, AreReadAs, ReadsForm}
 use Rattle.wesl_json_read.proofs.Rows.{over, plain-kind, Begins-then, Begins-length, NumberedFrom-append, identifiers-before, none-read}
+use Rattle.std.proofs.lemmas.Bool.{and_parts}
 
 -- a tree at the end
 abbrev pub then_tree : SpelledForest → Spelled → SpelledForest
@@ -46,14 +47,10 @@ identifiers-then (x ∷ ts) t =
     ∙ sym (append_assoc (identifiers (before x end)) (identifiers (forest_of ts)) (identifiers (before t end)))
     ∙ ap (λ r. r ++ identifiers (before t end)) (sym (identifiers-before x (forest_of ts)))
 
-and-case : (a b : Bool) → (a && b) ≡ true → (a ≡ true) × (b ≡ true)
-and-case true b h = (refl, h)
-and-case false b h = cc
-
 closed-then : (n : ℕ) (ts : List Tree) (t : Tree) → forest_below n (forest_of ts) ≡ true → forest_below n (before t end) ≡ true → forest_below n (forest_of (ts ++ t ∷ [])) ≡ true
 closed-then n [] t all one = one
 closed-then n (x ∷ ts) t all one =
-    let both = and-case (label_below n x.label && forest_below n x.children) (forest_below n (forest_of ts)) all in
+    let both = and_parts (label_below n x.label && forest_below n x.children) (forest_below n (forest_of ts)) all in
     ap (λ y. y && forest_below n (forest_of (ts ++ t ∷ []))) both.0 ∙ closed-then n ts t both.1 one
 
 module _ (spans : Bool) where

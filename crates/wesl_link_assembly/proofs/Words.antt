@@ -12,6 +12,7 @@ use Rattle.wesl_tree_syntax.specs.declared.span.Spanned.{Spanned}
 use Rattle.wesl_tree_syntax.specs.declared.declaration.GlobalDirective.{GlobalDirective}
 use Rattle.wesl_link_assembly.specs.Denotations.{free_name}
 use Rattle.wesl_link_assembly.specs.Views.{Meaning}
+use Rattle.std.proofs.lemmas.Bool.{and_parts}
 
 abbrev node_tree : Spanned GlobalDirective → Tree
 node_tree = placed directive_view directive_node
@@ -23,15 +24,11 @@ pub directives_are : (names : List Text) (ds : List (Spanned GlobalDirective)) �
 directives_are names [] = refl
 directives_are names (d ∷ ds) = ap (λ ts. spelled_node names d ∷ ts) (directives_are names ds)
 
-both : (a b : Bool) → (a && b) ≡ true → (a ≡ true) × (b ≡ true)
-both true b h = (refl, h)
-both false b h = absurd (let x : ⊥ = cc in x)
-
 -- each directive has its identifiers in the table
 pub each_below : (n : ℕ) (ds : List (Spanned GlobalDirective)) (i : ℕ) (d : Spanned GlobalDirective) → forest_below n (forest_of (map node_tree ds)) ≡ true → i < length ds → tree_below n (node_tree (get_or ds i d)) ≡ true
 each_below n [] i d h l = absurd (omega (arith, l))
-each_below n (e ∷ ds) zero d h l = (both (tree_below n (node_tree e)) (forest_below n (forest_of (map node_tree ds))) h).0
-each_below n (e ∷ ds) (suc i) d h l = each_below n ds i d (both (tree_below n (node_tree e)) (forest_below n (forest_of (map node_tree ds))) h).1 (omega (arith, l))
+each_below n (e ∷ ds) zero d h l = (and_parts (tree_below n (node_tree e)) (forest_below n (forest_of (map node_tree ds))) h).0
+each_below n (e ∷ ds) (suc i) d h l = each_below n ds i d (and_parts (tree_below n (node_tree e)) (forest_below n (forest_of (map node_tree ds))) h).1 (omega (arith, l))
 
 -- ---- words
 
@@ -46,30 +43,30 @@ each_joined n (x ∷ xs) ys a b = (a.0, each_joined n xs ys a.1 b)
 identifiers_below : (n : ℕ) (f : Forest) → forest_below n f ≡ true → EachBelow n (identifiers f)
 identifiers_below n end h = tt
 identifiers_below n (tree (ident r x) children others) h =
-    let t = both (tree_below n (record { label = ident r x; children = children })) (forest_below n others) h in
-    ((Decides-ltb x n).0 (both _ (forest_below n children) t.0).0, identifiers_below n others t.1)
+    let t = and_parts (tree_below n (record { label = ident r x; children = children })) (forest_below n others) h in
+    ((Decides-ltb x n).0 (and_parts _ (forest_below n children) t.0).0, identifiers_below n others t.1)
 identifiers_below n (tree (kind k) children others) h =
-    let t = both (forest_below n children) (forest_below n others) h in each_joined n (identifiers children) (identifiers others) (identifiers_below n children t.0) (identifiers_below n others t.1)
+    let t = and_parts (forest_below n children) (forest_below n others) h in each_joined n (identifiers children) (identifiers others) (identifiers_below n children t.0) (identifiers_below n others t.1)
 identifiers_below n (tree (at k i j) children others) h =
-    let t = both (forest_below n children) (forest_below n others) h in each_joined n (identifiers children) (identifiers others) (identifiers_below n children t.0) (identifiers_below n others t.1)
+    let t = and_parts (forest_below n children) (forest_below n others) h in each_joined n (identifiers children) (identifiers others) (identifiers_below n children t.0) (identifiers_below n others t.1)
 identifiers_below n (tree (text y) children others) h =
-    let t = both (forest_below n children) (forest_below n others) h in each_joined n (identifiers children) (identifiers others) (identifiers_below n children t.0) (identifiers_below n others t.1)
+    let t = and_parts (forest_below n children) (forest_below n others) h in each_joined n (identifiers children) (identifiers others) (identifiers_below n children t.0) (identifiers_below n others t.1)
 identifiers_below n (tree (texts y) children others) h =
-    let t = both (forest_below n children) (forest_below n others) h in each_joined n (identifiers children) (identifiers others) (identifiers_below n children t.0) (identifiers_below n others t.1)
+    let t = and_parts (forest_below n children) (forest_below n others) h in each_joined n (identifiers children) (identifiers others) (identifiers_below n children t.0) (identifiers_below n others t.1)
 identifiers_below n (tree (truth y) children others) h =
-    let t = both (forest_below n children) (forest_below n others) h in each_joined n (identifiers children) (identifiers others) (identifiers_below n children t.0) (identifiers_below n others t.1)
+    let t = and_parts (forest_below n children) (forest_below n others) h in each_joined n (identifiers children) (identifiers others) (identifiers_below n children t.0) (identifiers_below n others t.1)
 identifiers_below n (tree (unary y) children others) h =
-    let t = both (forest_below n children) (forest_below n others) h in each_joined n (identifiers children) (identifiers others) (identifiers_below n children t.0) (identifiers_below n others t.1)
+    let t = and_parts (forest_below n children) (forest_below n others) h in each_joined n (identifiers children) (identifiers others) (identifiers_below n children t.0) (identifiers_below n others t.1)
 identifiers_below n (tree (binary y) children others) h =
-    let t = both (forest_below n children) (forest_below n others) h in each_joined n (identifiers children) (identifiers others) (identifiers_below n children t.0) (identifiers_below n others t.1)
+    let t = and_parts (forest_below n children) (forest_below n others) h in each_joined n (identifiers children) (identifiers others) (identifiers_below n children t.0) (identifiers_below n others t.1)
 identifiers_below n (tree (assignment y) children others) h =
-    let t = both (forest_below n children) (forest_below n others) h in each_joined n (identifiers children) (identifiers others) (identifiers_below n children t.0) (identifiers_below n others t.1)
+    let t = and_parts (forest_below n children) (forest_below n others) h in each_joined n (identifiers children) (identifiers others) (identifiers_below n children t.0) (identifiers_below n others t.1)
 identifiers_below n (tree (space y) children others) h =
-    let t = both (forest_below n children) (forest_below n others) h in each_joined n (identifiers children) (identifiers others) (identifiers_below n children t.0) (identifiers_below n others t.1)
+    let t = and_parts (forest_below n children) (forest_below n others) h in each_joined n (identifiers children) (identifiers others) (identifiers_below n children t.0) (identifiers_below n others t.1)
 identifiers_below n (tree (access y) children others) h =
-    let t = both (forest_below n children) (forest_below n others) h in each_joined n (identifiers children) (identifiers others) (identifiers_below n children t.0) (identifiers_below n others t.1)
+    let t = and_parts (forest_below n children) (forest_below n others) h in each_joined n (identifiers children) (identifiers others) (identifiers_below n children t.0) (identifiers_below n others t.1)
 identifiers_below n (tree (path y) children others) h =
-    let t = both (forest_below n children) (forest_below n others) h in each_joined n (identifiers children) (identifiers others) (identifiers_below n children t.0) (identifiers_below n others t.1)
+    let t = and_parts (forest_below n children) (forest_below n others) h in each_joined n (identifiers children) (identifiers others) (identifiers_below n children t.0) (identifiers_below n others t.1)
 
 abbrev numbers_of : List Ident → List ℕ
 numbers_of = map (λ i. i.0)

@@ -30,6 +30,7 @@ use Rattle.wesl_link_engine.proofs.Built.{paths_one, names_one}
 use Rattle.wesl_link_engine.proofs.Named.{GivesTo, IsFreshAfter, AreOnlyRoot}
 use Rattle.wesl_link_engine.proofs.Texts.{name_is, name_by}
 use Rattle.wesl_link_engine.proofs.Lists.{item_held}
+use Rattle.std.proofs.lemmas.Bool.{false_from_ne_true}
 
 -- each declared name of a numbered table has a text
 pub all_named : (nb : Numbering) (t : Table PathId NameId) (m : Module) → IsNumbered nb t (table m) → AreNamed nb t
@@ -76,10 +77,6 @@ module _ (nb : Numbering) (different_paths : AreDifferent nb.paths) (different_n
 
 -- ---- all modules
 
-is_false : (b : Bool) → (b ≡ true → ⊥) → b ≡ false
-is_false true h = absurd (h refl)
-is_false false h = refl
-
 never : (b : Bool) → (b && not true) ≡ false
 never true = refl
 never false = refl
@@ -105,7 +102,7 @@ module _ (l : Link) (name_of : Path → Text → Text) (given : Given) where
           let none : given (record { path = p; name = n }) ≡ None = s.none p n (λ k held there. apart k held ((paths_one (numbering l.numbers) l.numbers.paths.different).one p (path_view k.path) (path_view l.root.path) there (subst (λ (z : LoadedModule). PathAt (numbering l.numbers) p (path_view z.path)) (sym e) at))) in
           ap (or_own (name_text (numbering l.numbers) n)) none ∙ (name_is (numbering l.numbers) n x named ∙ sym (ap (λ b. if b && not false then x else name_of (path_view m.path) x) same))
       by (inr held) =
-          let other : same_path (path_view m.path) (path_view l.root.path) ≡ false = is_false (same_path (path_view m.path) (path_view l.root.path)) (λ e. apart m held ((same_path-decides (path_view m.path) (path_view l.root.path)).0 e)) in
+          let other : same_path (path_view m.path) (path_view l.root.path) ≡ false = false_from_ne_true (same_path (path_view m.path) (path_view l.root.path)) (λ e. apart m held ((same_path-decides (path_view m.path) (path_view l.root.path)).0 e)) in
           ap (or_own (name_text (numbering l.numbers) n)) (s.names m p n x held d at named) ∙ sym (ap (λ b. if b && not false then x else name_of (path_view m.path) x) other)
 
 -- what modules declare prints as was given

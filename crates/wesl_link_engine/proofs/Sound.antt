@@ -1,5 +1,5 @@
 -- What a link keeps is what the engine found: its tables are those of the modules, and its symbols those that are reached.
-use Rattle.std.proofs.Common.{◌≡◌, ◌⊎◌, inl, inr, ◌↔◌, ℕ, suc, Bool, true, false, Option, Some, None, List, [], ◌∷◌, map, Contains, refl, sym, subst, ap, ◌∙◌}
+use Rattle.std.proofs.Common.{◌≡◌, ◌⊎◌, inl, inr, ◌↔◌, ℕ, suc, Bool, Option, Some, None, List, [], ◌∷◌, map, Contains, refl, sym, subst, ap, ◌∙◌}
 use Rattle.std.specs.Prelude.{slice_get, Vec}
 use Rattle.std.specs.declared.alloc.Global.{Global}
 use Rattle.std.specs.List.Sorted.{IsPermutation}
@@ -49,6 +49,7 @@ use Rattle.wesl_link_engine.proofs.Holding.{IsFoundBy}
 use Rattle.wesl_link_engine.proofs.Lists.{at_has}
 use Rattle.wesl_link_engine.proofs.Marked.{marks_later}
 use Rattle.wesl_link_engine.proofs.Texts.{name_is}
+use Rattle.std.proofs.lemmas.Bool.{false_from_ne_true}
 
 -- the texts of numbers that are related to texts
 pub texts_are : (nb : Numbering) (ns : List NameId) (xs : List Text) → AreRelated (NameAt nb) ns xs → map (name_text nb) ns ≡ xs
@@ -56,10 +57,6 @@ texts_are nb [] [] h = refl
 texts_are nb (n ∷ ns) (x ∷ xs) h = ap (λ y. y ∷ map (name_text nb) ns) (name_is nb n x h.0) ∙ ap (λ ys. x ∷ ys) (texts_are nb ns xs h.1)
 texts_are nb [] (x ∷ xs) h = absurd h
 texts_are nb (n ∷ ns) [] h = absurd h
-
-is_false : (b : Bool) → (b ≡ true → ⊥) → b ≡ false
-is_false true h = absurd (h refl)
-is_false false h = refl
 
 symbol_one : (nb : Numbering) → AreDifferent nb.paths → AreDifferent nb.names → (s : Symbol PathId NameId) (x y : Symbol Path Text) → SameSymbol (PathAt nb) (NameAt nb) s x → SameSymbol (PathAt nb) (NameAt nb) s y → x ≡ y
 symbol_one nb dp dn s x y h k =
@@ -184,7 +181,7 @@ module _ (numbers : NumberTexts) (first : Numbering) (g : Grows first (numbering
     tabled = tabled;
     covered = covered;
     once = found_now.once;
-    asked = λ m c. is_false (is_relative (path_view m.path)) (found_now.world.no_relative (module_of m) (map_contains module_of (first_loaded ∷ others.items) m c));
+    asked = λ m c. false_from_ne_true (is_relative (path_view m.path)) (found_now.world.no_relative (module_of m) (map_contains module_of (first_loaded ∷ others.items) m c));
     reached = reached;
     kept = kept_now;
     tables_once = linked.tables_once;

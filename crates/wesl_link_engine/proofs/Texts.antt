@@ -14,6 +14,7 @@ use Rattle.wesl_link_assembly.specs.Denotations.{symbol, local, free_name}
 use Rattle.wesl_link_assembly.specs.Views.{Meaning}
 use Rattle.wesl_link_engine.specs.Keeping.{path_text, name_text, place_of, or_own, given_at, name_under, denotation_text}
 use Rattle.wesl_link_engine.specs.Holding.{printed_by, IsNamed}
+use Rattle.std.proofs.lemmas.Bool.{false_from_ne_true}
 
 pub path_is : (nb : Numbering) (p : PathId) (q : Path) → PathAt nb p q → path_text nb p ≡ q
 path_is nb p q at = get_or_from_slice_get nb.paths p.0 q root_path at
@@ -22,10 +23,6 @@ pub name_is : (nb : Numbering) (n : NameId) (x : Text) → NameAt nb n x → nam
 name_is nb n x at = get_or_from_slice_get nb.names n.0 x [] at
 
 -- ---- places
-
-is_false : (b : Bool) → (b ≡ true → ⊥) → b ≡ false
-is_false true h = absurd (h refl)
-is_false false h = refl
 
 if_false : {X : Type 0} (b : Bool) (x y : X) → b ≡ false → (if b then x else y) ≡ y
 if_false false x y e = refl
@@ -43,7 +40,7 @@ module _ {X : Type 0} (test : X → Bool) (x : X) (own : test x ≡ true) (alone
   place_is (y ∷ xs) (suc i) d at =
       let apart : test y ≡ true → ⊥ = λ h. let e : zero ≡ suc i = d zero (suc i) x (ap Some (alone y h)) at in absurd (cc) in
       let rest : AreDifferent xs = λ j k z a b. let e : suc j ≡ suc k = d (suc j) (suc k) z a b in cc in
-      if_false (test y) _ _ (is_false (test y) apart) ∙ ap (option_map suc) (place_is xs i rest at)
+      if_false (test y) _ _ (false_from_ne_true (test y) apart) ∙ ap (option_map suc) (place_is xs i rest at)
 
 same_bytes : (x y : Text) → bytes_eq x y ≡ true → y ≡ x
 same_bytes x y h = sym ((bytes_eq-Decides x y).0 h)

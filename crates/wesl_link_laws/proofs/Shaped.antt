@@ -7,6 +7,7 @@ use Rattle.wesl_tree_syntax.specs.Nodes.{is_type}
 use Rattle.wesl_scope_occurrences.specs.Occurrences.{Shape, of_type, opens, path_of}
 use Rattle.wesl_link_assembly.specs.Pathless.{without_path, has_words, without_paths}
 use Rattle.wesl_link_laws.proofs.Alike.{is_ident, shape_in, words_in, Alike, none, identifier, a_node, hollow}
+use Rattle.std.proofs.lemmas.Bool.{or_left}
 
 abbrev pub shape : {I : Type 0} → ForestOf I → ForestOf (Unit {0})
 shape = respell_forest (λ i. tt)
@@ -195,16 +196,12 @@ and_right false b h = absurd (let z : ⊥ = cc in z)
 abbrev pub Pathless : Option Path → Option Path → Type 0
 Pathless p q = q ≡ None
 
-still_words : (w v : Bool) → w ≡ true → (w || v) ≡ true
-still_words true v h = refl
-still_words false v h = absurd (let z : ⊥ = cc in z)
-
 module _ {I J : Type 0} where
   in_words : (w : Bool) → w ≡ true → (sh : Shape) (c : ForestOf I) (d : ForestOf J) → shape d ≡ shape c → (w ≡ true) ⊎ Pathless (path_of sh c) (path_of sh d)
   in_words w h sh c d e = inl h
 
   alike_words : (f : ForestOf I) (g : ForestOf J) → shape g ≡ shape f → Alike Pathless true f g
-  alike_words = alike_shape Pathless (λ w. w ≡ true) still_words in_words true refl
+  alike_words = alike_shape Pathless (λ w. w ≡ true) or_left in_words true refl
 
 -- trees without paths
 abbrev pub IsAlikeWithout : {I : Type 0} (J : Type 0) → ForestOf I → Type 0

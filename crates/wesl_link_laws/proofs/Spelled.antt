@@ -29,16 +29,13 @@ use Rattle.wesl_link_laws.proofs.Laid.{LaidAt, Related, has_source}
 use Rattle.wesl_link_laws.proofs.Meant.{IsReference, IsLaidOut, symbol_reached, in_all, each_stands, StandsHere}
 use Rattle.wesl_link_laws.proofs.Corresponding.{bound_so, binds_so}
 use Rattle.wesl_link_laws.proofs.Picking.{filtered, kept_in, none_there, visible_binds, Picks, in_a_function, in_no_function, picks}
+use mathlib.Core.Bool.{and-false}
 
 not_so : {X : Type 0} (x y : X) → x ≢ y → x ≡ y → ⊥
 not_so x y d e = d e
 
-and_false : (b : Bool) → (b && false) ≡ false
-and_false true = refl
-and_false false = refl
-
 not_global : (o : Occurrence ℕ) (k : ℕ) (outer : Block) → o.block ≡ k ∷ outer → is_global o ≡ false
-not_global o k outer e = ap (λ b. is_binder o.role && bytes_eq b []) e ∙ and_false (is_binder o.role)
+not_global o k outer e = ap (λ b. is_binder o.role && bytes_eq b []) e ∙ and-false (is_binder o.role)
 
 global_so : (o : Occurrence ℕ) → is_binder o.role ≡ true → o.block ≡ [] → is_global o ≡ true
 global_so o r e = ap₂ (λ a b. a && bytes_eq b []) r e

@@ -39,6 +39,7 @@ use Rattle.wesl_tree_syntax.specs.declared.statement.Statement.TheOpen.{Statemen
 use Rattle.wesl_tree_syntax.specs.declared.statement.Statement.TheFolds.{ind-CompoundStatement, fold-roll-Statement, fold-roll-CompoundStatement, fold-roll-ContinuingStatement, fold-roll-ElseClause, fold-roll-ElseIfClause, fold-roll-IfClause, fold-roll-SwitchClause}
 use Rattle.wesl_link_laws.proofs.Shaped.{is_typed_at}
 use Rattle.wesl_link_laws.proofs.Grammar.{is_name, is_parameter, is_declaration, sober, quiet, plainly, once_named, Parameters, no_parameter, one_parameter, FunctionFields, fields_of, Globals, no_more, a_function, another, not_so}
+use Rattle.std.proofs.lemmas.Bool.{or_right}
 
 abbrev IsSober : Tree → Type 0
 IsSober t = (((not (is_name t.label) && not (is_parameter t.label)) && is_typed_at t.label t.children) && sober t.children) ≡ true
@@ -57,10 +58,6 @@ and_right : (a b : Bool) → (a && b) ≡ true → b ≡ true
 and_right true b h = h
 and_right false b h = absurd (let z : ⊥ = cc in z)
 
-or_more : (d n : Bool) → n ≡ true → (d || n) ≡ true
-or_more true n h = refl
-or_more false n h = h
-
 -- where no name is declared, none is but by declarations
 sober_quiet : (d : Bool) (f : Forest) → sober f ≡ true → quiet d f ≡ true
 sober_quiet d end h = refl
@@ -71,7 +68,7 @@ sober_quiet d (tree l c o) h =
     let h1 = and_left (((n && k) && t) && sober c) (sober o) h in
     let h2 = and_left ((n && k) && t) (sober c) h1 in
     let h3 = and_left (n && k) t h2 in
-    let hn = or_more d n (and_left n k h3) in
+    let hn = or_right d n (and_left n k h3) in
     let hk = and_right n k h3 in
     let ht = and_right (n && k) t h2 in
     let hc = sober_quiet (is_declaration l) c (and_right ((n && k) && t) (sober c) h1) in

@@ -8,14 +8,11 @@ use Rattle.wesl_cond_choices.specs.declared.place.Place.TheVariants.{Always, Imp
 use Rattle.wesl_cond_choices.specs.Places.{is_always, same_place, keeps, together}
 use Rattle.wesl_link_symbols.proofs.Lists.{contains_nil, contains_first, contains_later, contains_cases}
 use Rattle.wesl_link_sound.proofs.Decidable.{IsDecidable, decided_by, all_of, same_bool}
+use Rattle.std.proofs.lemmas.Bool.{and_parts}
 
 or_cases : (x y : Bool) → (x || y) ≡ true → (x ≡ true) ⊎ (y ≡ true)
 or_cases true y e = inl refl
 or_cases false y e = inr e
-
-and_both : (x y : Bool) → (x && y) ≡ true → (x ≡ true) × (y ≡ true)
-and_both true y e = (refl, e)
-and_both false y e = absurd (true≢false (sym e))
 
 agree : (x y : Bool) → (x ≡ true → x ≡ y) → (y ≡ true → x ≡ y) → x ≡ y
 agree true y f g = f refl
@@ -67,7 +64,7 @@ some_keeps alive p (kept, c, e) = elim (keeps_in kept p e) [
 together_in : (alive : List (List Place)) (a b : Place) → together alive a b ≡ true → Contains (Always ∷ places alive) a × Contains (Always ∷ places alive) b
 together_in alive a b e =
     let (kept, c, k) = some_passes (λ kept. keeps kept a && keeps kept b) alive e in
-    let (f, g) = and_both (keeps kept a) (keeps kept b) k in
+    let (f, g) = and_parts (keeps kept a) (keeps kept b) k in
     (some_keeps alive a (kept, c, f), some_keeps alive b (kept, c, g))
 
 abbrev all_places : List (List Place) → List (List Place) → List Place

@@ -11,6 +11,7 @@ use Rattle.wesl_link_split.specs.Split as split
 use Rattle.wesl_link_split.specs.Split.{Scope}
 use Rattle.wesl_link_split.specs.declared.binders.Binder.{Binder}
 use Rattle.wesl_link_split.proofs.Grouping.{id_is}
+use mathlib.Core.Bool.{and-false}
 
 or_left : (a b : Bool) → (a || b) ≡ false → a ≡ false
 or_left false b e = refl
@@ -19,10 +20,6 @@ or_left true b e = absurd (let z : ⊥ = cc in z)
 or_right : (a b : Bool) → (a || b) ≡ false → b ≡ false
 or_right false b e = e
 or_right true b e = absurd (let z : ⊥ = cc in z)
-
-and_false : (a : Bool) → (a && false) ≡ false
-and_false true = refl
-and_false false = refl
 
 -- there is a binder of the name, or there is none
 named : (n : NameId) (bs : List (Binder PathId NameId)) (p : NameId → Bool) → list_any (λ b. p b.bound) bs ≡ false → (split.of_name ids n bs ≡ [] → p n ≡ false) → p n ≡ false
@@ -38,7 +35,7 @@ module _ (s : Scope PathId NameId) (h : split.has_split ids s.binders ≡ false)
   unsplit n = named n s.binders (split.is_split ids s.binders) h (λ e. ap (split.has_two_targets ids) e)
 
   own_unsplit : (p : PathId) (n : NameId) → split.is_own_split ids s p n ≡ false
-  own_unsplit p n = ap (λ b. (p.0 == s.own.0) && b) (unsplit n) ∙ and_false (p.0 == s.own.0)
+  own_unsplit p n = ap (λ b. (p.0 == s.own.0) && b) (unsplit n) ∙ and-false (p.0 == s.own.0)
 
   -- it is seen from everywhere, and asks from outside
   pub settled_plain : (i : Import PathId NameId) → record { bound = i.bound; path = i.path; item = i.item; published = i.published; place = Always; from = Always; order = 2 } ≡ split.settled ids s i

@@ -1,6 +1,6 @@
 -- The escape form of identifiers is an identifier.
 use Rattle.std.proofs.Common.{◌≡◌, ◌<◌, ◌^◌, ℕ, zero, suc, Bool, true, false, not, cond, ◌&&◌, List, [], ◌∷◌, ◌++◌, length, replicate, refl, ap, sym, ◌∙◌, ◌==◌, arith, length-append, append_assoc, codes}
-use Rattle.std.proofs.lemmas.Bool.{false≢true, eqb-true}
+use Rattle.std.proofs.lemmas.Bool.{and_parts, eqb-true, false≢true, or_parts}
 use Rattle.std.proofs.lemmas.Fmt.{decimal_nonempty}
 use Rattle.std.specs.List.{slice_split, onto_first, flat_map, list_any, list_all}
 use Rattle.std.specs.Char.{is_ascii_digit}
@@ -9,7 +9,7 @@ use Rattle.std.specs.Str.{bytes_eq}
 use Rattle.wesl_tree_names.specs.Path.{Text, Origin, absolute, relative, from_package, Path}
 use Rattle.wesl_mangle_forms.specs.Escape.{pieces_of, parts_of, from_pieces, with_count, escaped_part, escaped_parts, escaped, escaped_origin, escaped_item, escape}
 use Rattle.wesl_mangle_forms.specs.Identifier.{is_identifier_byte, is_ascii_identifier, begins_with_two_underscores, is_identifier_origin, has_identifiers}
-use Rattle.wesl_mangle_forms.proofs.Cuts.{and-both, or-neither, not-true, list_all-append, cut_none, clean, cut_clean, cut_some, join_longer}
+use Rattle.wesl_mangle_forms.proofs.Cuts.{not-true, list_all-append, cut_none, clean, cut_clean, cut_some, join_longer}
 use Rattle.wesl_mangle_forms.proofs.Reading.{uncut, length-with_count, parts_all, decimal_all, is_line}
 
 -- each byte
@@ -27,17 +27,17 @@ cut-all-step false c parts e h = onto-all c parts e h
 
 cut-all : (p : ℕ → Bool) (t : Text) → are_bytes t ≡ true → list_all are_bytes (slice_split p t) ≡ true
 cut-all p [] h = refl
-cut-all p (c ∷ cs) h = let g = and-both (is_identifier_byte c) (are_bytes cs) h in cut-all-step (p c) c (slice_split p cs) g.0 (cut-all p cs g.1)
+cut-all p (c ∷ cs) h = let g = and_parts (is_identifier_byte c) (are_bytes cs) h in cut-all-step (p c) c (slice_split p cs) g.0 (cut-all p cs g.1)
 
 digits-bytes : (ds : Text) → list_all is_ascii_digit ds ≡ true → are_bytes ds ≡ true
 digits-bytes [] h = refl
-digits-bytes (d ∷ ds) h = let g = and-both (is_ascii_digit d) (list_all is_ascii_digit ds) h in let b : is_identifier_byte d ≡ true = rw g.0 refl in rw b (digits-bytes ds g.1)
+digits-bytes (d ∷ ds) h = let g = and_parts (is_ascii_digit d) (list_all is_ascii_digit ds) h in let b : is_identifier_byte d ≡ true = rw g.0 refl in rw b (digits-bytes ds g.1)
 
 join-all : (ps : List Text) → list_all are_bytes ps ≡ true → are_bytes (from_pieces ps) ≡ true
 join-all [] h = refl
-join-all (p ∷ []) h = (and-both (are_bytes p) true h).0
+join-all (p ∷ []) h = (and_parts (are_bytes p) true h).0
 join-all (p ∷ q ∷ ps) h =
-    let g = and-both (are_bytes p) (list_all are_bytes (q ∷ ps)) h in
+    let g = and_parts (are_bytes p) (list_all are_bytes (q ∷ ps)) h in
     list_all-append is_identifier_byte p (95 ∷ from_pieces (q ∷ ps)) g.0 (join-all (q ∷ ps) g.1)
 
 decimal-bytes : (n : ℕ) → n < 2 ^ 64 → are_bytes (decimal n) ≡ true
@@ -47,14 +47,14 @@ with_count-all : (ps : List Text) → length ps < 2 ^ 64 → list_all are_bytes 
 with_count-all [] l h = h
 with_count-all (p ∷ []) l h = h
 with_count-all (p ∷ q ∷ ps) l h =
-    let g = and-both (are_bytes p) (list_all are_bytes (q ∷ ps)) h in
+    let g = and_parts (are_bytes p) (list_all are_bytes (q ∷ ps)) h in
     rw (list_all-append is_identifier_byte (decimal (length (q ∷ ps))) p (decimal-bytes (length (q ∷ ps)) (omega arith)) g.0) g.1
 
 identifier-bytes : (n : Text) → is_ascii_identifier n ≡ true → are_bytes n ≡ true
 identifier-bytes [] h = refl
 identifier-bytes (c ∷ cs) h =
-    let g = and-both (not (is_ascii_digit c)) _ h in
-    (and-both (not (bytes_eq (c ∷ cs) (codes "_"))) (are_bytes (c ∷ cs)) g.1).1
+    let g = and_parts (not (is_ascii_digit c)) _ h in
+    (and_parts (not (bytes_eq (c ∷ cs) (codes "_"))) (are_bytes (c ∷ cs)) g.1).1
 
 part-all : (n : Text) → length (escaped_part n) < 2 ^ 64 → is_ascii_identifier n ≡ true → list_all are_bytes (escaped_part n) ≡ true
 part-all n l h = let a = length-with_count (pieces_of n) in with_count-all (pieces_of n) (omega (arith, a, l)) (cut-all is_line n (identifier-bytes n h))
@@ -63,12 +63,12 @@ flat-all : (ns : List Text) → length (flat_map escaped_part ns) < 2 ^ 64 → l
 flat-all [] l h = refl
 flat-all (n ∷ ns) l h =
     let b = length-append (escaped_part n) (flat_map escaped_part ns) in
-    let g = and-both (is_ascii_identifier n) (list_all is_ascii_identifier ns) h in
+    let g = and_parts (is_ascii_identifier n) (list_all is_ascii_identifier ns) h in
     list_all-append are_bytes (escaped_part n) (flat_map escaped_part ns) (part-all n (omega (arith, l, b)) g.0) (flat-all ns (omega (arith, l, b)) g.1)
 
 parts-bytes : (ns : List Text) → length (escaped_parts ns) < 2 ^ 64 → list_all is_ascii_identifier ns ≡ true → list_all are_bytes (escaped_parts ns) ≡ true
 parts-bytes [] l h = refl
-parts-bytes (p ∷ []) l h = part-all p l (and-both (is_ascii_identifier p) true h).0
+parts-bytes (p ∷ []) l h = part-all p l (and_parts (is_ascii_identifier p) true h).0
 parts-bytes (p ∷ q ∷ ns) l h =
     let xs : List Text = p ∷ q ∷ ns in
     let k : length xs < 2 ^ 64 = (let a = parts_all xs in omega (arith, a, l)) in
@@ -93,7 +93,7 @@ slash-step false c e h = e
 bytes-no_slash : (t : Text) → are_bytes t ≡ true → list_any (λ c. c == 47) t ≡ false
 bytes-no_slash [] h = refl
 bytes-no_slash (c ∷ cs) h =
-    let g = and-both (is_identifier_byte c) (are_bytes cs) h in
+    let g = and_parts (is_identifier_byte c) (are_bytes cs) h in
     let e = slash-step (c == 47) c refl g.0 in
     rw e (bytes-no_slash cs g.1)
 
@@ -103,13 +103,13 @@ identifier-part n h = ap escaped_parts (cut_none (λ c. c == 47) n (bytes-no_sla
 identifier-parts : (ns : List Text) → list_all is_ascii_identifier ns ≡ true → flat_map escaped ns ≡ flat_map escaped_part ns
 identifier-parts [] h = refl
 identifier-parts (n ∷ ns) h =
-    let g = and-both (is_ascii_identifier n) (list_all is_ascii_identifier ns) h in
+    let g = and_parts (is_ascii_identifier n) (list_all is_ascii_identifier ns) h in
     ap (λ xs. xs ++ flat_map escaped ns) (identifier-part n g.0) ∙ ap (λ xs. escaped_part n ++ xs) (identifier-parts ns g.1)
 
 item-bytes : (p : Path) (i : Text) → length (escaped_item p i) < 2 ^ 64 → has_identifiers p i ≡ true → list_all are_bytes (escaped_item p i) ≡ true
 item-bytes p i l h =
-    let g = and-both (is_identifier_origin p.origin) _ h in
-    let k = and-both (list_all is_ascii_identifier p.components) (is_ascii_identifier i) g.1 in
+    let g = and_parts (is_identifier_origin p.origin) _ h in
+    let k = and_parts (list_all is_ascii_identifier p.components) (is_ascii_identifier i) g.1 in
     let o : List Text = escaped_origin p.origin in
     let cs : List Text = flat_map escaped p.components in
     let a = length-append (o ++ cs) (escaped i) in
@@ -161,20 +161,20 @@ begun ([] ∷ []) w h = absurd (false≢true w)
 begun ([] ∷ [] ∷ ps) w h = absurd (false≢true w)
 begun ([] ∷ (d ∷ ds) ∷ []) w h = lined-text d ds w h
 begun ([] ∷ (d ∷ ds) ∷ q ∷ ps) w h = lined-text d (ds ++ 95 ∷ from_pieces (q ∷ ps)) w h
-begun ((c ∷ cs) ∷ []) w h = let g = and-both (not (is_ascii_digit c)) (not (c == 95)) w in identifier-text c cs (not-true _ g.0) (not-true _ g.1) h
-begun ((c ∷ cs) ∷ q ∷ ps) w h = let g = and-both (not (is_ascii_digit c)) (not (c == 95)) w in identifier-text c (cs ++ 95 ∷ from_pieces (q ∷ ps)) (not-true _ g.0) (not-true _ g.1) h
+begun ((c ∷ cs) ∷ []) w h = let g = and_parts (not (is_ascii_digit c)) (not (c == 95)) w in identifier-text c cs (not-true _ g.0) (not-true _ g.1) h
+begun ((c ∷ cs) ∷ q ∷ ps) w h = let g = and_parts (not (is_ascii_digit c)) (not (c == 95)) w in identifier-text c (cs ++ 95 ∷ from_pieces (q ∷ ps)) (not-true _ g.0) (not-true _ g.1) h
 
 digits-begin : (ds p : Text) (ps : List Text) → 0 < length ds → list_all is_ascii_digit ds ≡ true → begins_well ([] ∷ (ds ++ p) ∷ ps) ≡ true
 digits-begin [] p ps l h = absurd (omega arith)
-digits-begin (d ∷ ds) p ps l h = (and-both (is_ascii_digit d) (list_all is_ascii_digit ds) h).0
+digits-begin (d ∷ ds) p ps l h = (and_parts (is_ascii_digit d) (list_all is_ascii_digit ds) h).0
 
 with_count-begins : (ps rest : List Text) → length ps < 2 ^ 64 → is_ascii_identifier (from_pieces ps) ≡ true → list_all (clean is_line) ps ≡ true → begins_well (with_count ps ++ rest) ≡ true
 with_count-begins [] rest l h k = absurd (false≢true h)
 with_count-begins ([] ∷ []) rest l h k = absurd (false≢true h)
 with_count-begins ((c ∷ cs) ∷ []) rest l h k =
-    let g = and-both (not (is_ascii_digit c)) _ h in
-    let e = not-true _ (and-both (clean is_line (c ∷ cs)) true k).0 in
-    rw (not-true _ g.0, (or-neither (c == 95) (list_any is_line cs) e).0) refl
+    let g = and_parts (not (is_ascii_digit c)) _ h in
+    let e = not-true _ (and_parts (clean is_line (c ∷ cs)) true k).0 in
+    rw (not-true _ g.0, (or_parts (c == 95) (list_any is_line cs) e).0) refl
 with_count-begins (p ∷ q ∷ ps) rest l h k =
     let n = length (q ∷ ps) in
     digits-begin (decimal n) p ((q ∷ ps) ++ rest) (decimal_nonempty n (omega arith)) (decimal_all n (omega arith))
@@ -186,7 +186,7 @@ part-begins n rest l h =
 
 parts-begin : (ns rest : List Text) → 0 < length ns → length (escaped_parts ns) < 2 ^ 64 → list_all is_ascii_identifier ns ≡ true → begins_well (escaped_parts ns ++ rest) ≡ true
 parts-begin [] rest z l h = absurd (omega arith)
-parts-begin (p ∷ []) rest z l h = part-begins p rest l (and-both (is_ascii_identifier p) true h).0
+parts-begin (p ∷ []) rest z l h = part-begins p rest l (and_parts (is_ascii_identifier p) true h).0
 parts-begin (p ∷ q ∷ ns) rest z l h = refl
 
 origin-begins : (o : Origin) (rest : List Text) → length (escaped_origin o) < 2 ^ 64 → is_identifier_origin o ≡ true → begins_well (escaped_origin o ++ rest) ≡ true
@@ -203,5 +203,5 @@ identifier_form p i h r =
     let a = length-append (o ++ cs) (escaped i) in
     let b = length-append o cs in
     let w : begins_well (escaped_item p i) ≡ true =
-    ap begins_well (append_assoc o cs (escaped i)) ∙ origin-begins p.origin (cs ++ escaped i) (omega (arith, h, j, a, b)) (and-both (is_identifier_origin p.origin) _ r).0 in
+    ap begins_well (append_assoc o cs (escaped i)) ∙ origin-begins p.origin (cs ++ escaped i) (omega (arith, h, j, a, b)) (and_parts (is_identifier_origin p.origin) _ r).0 in
     begun (escaped_item p i) w (join-all (escaped_item p i) (item-bytes p i (omega (arith, h, j)) r))

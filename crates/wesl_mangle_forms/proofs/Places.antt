@@ -1,6 +1,6 @@
 -- Places among pieces, and what is read from them on.
 use Rattle.std.proofs.Common.{◌≡◌, ◌<◌, ◌≤◌, ◌+◌, ◌-◌, ◌^◌, ℕ, zero, suc, Bool, true, false, not, ◌&&◌, List, [], ◌∷◌, ◌++◌, length, map, take, drop, Option, Some, None, option_map, option_and_then, IfSome, Err, refl, ap, sym, ◌∙◌, ◌==◌, arith, append_assoc, length-drop, String, Global, string_bytes, add-one, codes}
-use Rattle.std.proofs.lemmas.Bool.{eqb-false}
+use Rattle.std.proofs.lemmas.Bool.{and_parts, eqb-false}
 use Rattle.std.proofs.lemmas.List.{take_all, drop-map, drop-drop, append-nil}
 use Rattle.std.proofs.lemmas.Slice.Eq.{bytes_eq-Decides}
 use Rattle.std.proofs.lemmas.Str.Parse.{parse_digits}
@@ -13,7 +13,7 @@ use Rattle.wesl_tree_names.specs.Path.{Text, Origin, from_package, relative}
 use Rattle.wesl_mangle_forms.specs.Escape.{◌>>=◌, from_parts, read_name, read_names, read_all_names, is_number, read_import, is_super, read_origin, item_below, unescaped}
 use Rattle.wesl_tree_base.specs.Borrowed.{texts}
 use Rattle.wesl_mangle_forms.specs.Views.{name_before}
-use Rattle.wesl_mangle_forms.proofs.Cuts.{and-both, not-true}
+use Rattle.wesl_mangle_forms.proofs.Cuts.{not-true}
 use Rattle.wesl_mangle_forms.proofs.Names.{names-more, names-none, read_name-shorter}
 use Rattle.wesl_mangle_forms.proofs.Reading.{own, import-step}
 
@@ -106,7 +106,7 @@ digits-list (c ∷ cs) = ap (λ (b : Bool). is_ascii_digit c && b) (digits-list 
 
 pub number-large : {E : Type 0} (q : Text) (err : E) (most : ℕ) → most < 2 ^ 64 → ParsesUnsigned {E = E} 64 10 q (Err err) → is_number q ≡ true → most < digits_value 10 q
 number-large {E} q err most l h n =
-    let g = and-both (not (length q == 0)) (all_ascii_digits q) n in
+    let g = and_parts (not (length q == 0)) (all_ascii_digits q) n in
     let z = eqb-false (length q) 0 (not-true (length q == 0) g.0) in
     let no = parse_digits own 64 q (Err err) h g.1 in
     let f : digits_value 10 q < 2 ^ 64 → ⊥ = λ v. no (omega (arith, z), v) in
@@ -132,7 +132,7 @@ drop-one n q ps = rw (add-one n) refl
 pub import-read : (q : Text) (ps pieces : List Text) (taken : ℕ) (ns : List Text) (name : Text) → pieces ≡ q ∷ ps → is_number q ≡ true → read_names (digits_value 10 q) ps ≡ Some (ns, drop taken ps) → name ≡ from_parts ns
     → read_import pieces ≡ Some (from_package name, drop (taken + 1) pieces)
 import-read q ps pieces taken ns name e n r m =
-    let g = and-both (not (length q == 0)) (all_ascii_digits q) n in
+    let g = and_parts (not (length q == 0)) (all_ascii_digits q) n in
     let z = eqb-false (length q) 0 (not-true (length q == 0) g.0) in
     ap read_import e
     ∙ import-step q ps ns (drop taken ps) (omega (arith, z)) g.1 r

@@ -1,6 +1,6 @@
 -- What was written in the escape form is read back.
 use Rattle.std.proofs.Common.{◌≡◌, ◌<◌, ◌≤◌, ◌^◌, ℕ, zero, suc, Bool, true, false, not, cond, ◌&&◌, ◌||◌, List, [], ◌∷◌, ◌++◌, length, take, drop, replicate, Option, Some, None, option_map, refl, ap, sym, subst, ◌∙◌, ◌==◌, nat_le, arith, length-append, append_assoc}
-use Rattle.std.proofs.lemmas.Bool.{false≢true, ne_eqb, le-leb}
+use Rattle.std.proofs.lemmas.Bool.{and_parts, false≢true, le-leb, ne_eqb, or_parts}
 use Rattle.std.proofs.lemmas.List.{take_at, drop_at, append-nil, length-replicate}
 use Rattle.std.proofs.lemmas.List.Concat.{flat_map-append}
 use Rattle.std.proofs.lemmas.List.Elements.{All-nil, All-cons, All-head, All-tail, All-push}
@@ -17,7 +17,7 @@ use lib.Chars.{codes}
 use Rattle.wesl_tree_names.specs.Path.{Text, Origin, absolute, relative, from_package, Path}
 use Rattle.wesl_mangle_forms.specs.Escape.{◌>>=◌, pieces_of, parts_of, from_pieces, from_parts, with_count, escaped_part, escaped_parts, escaped, escaped_origin, escaped_item, escape, counted, read_name, read_names, read_all_names, read_import, is_super, read_origin, item_below, unescaped, is_word, is_plain, is_plain_origin, is_reversible}
 use Rattle.wesl_mangle_forms.specs.Laws.{IsShort, IsShortOrigin, HasShortNames, RoundTrip}
-use Rattle.wesl_mangle_forms.proofs.Cuts.{and-both, or-neither, not-true, first_fails, prefix_len-all, list_all-append, list_any-append, cut_none, clean, cut_clean, cut_some, cut_join}
+use Rattle.wesl_mangle_forms.proofs.Cuts.{not-true, first_fails, prefix_len-all, list_all-append, list_any-append, cut_none, clean, cut_clean, cut_some, cut_join}
 
 -- decimal texts
 
@@ -26,7 +26,7 @@ own = numerals_by_value _ tells_all_ascii_digits
 
 digits_all : (ds : Text) → all_ascii_digits ds ≡ true → list_all is_ascii_digit ds ≡ true
 digits_all [] h = refl
-digits_all (d ∷ ds) h = let g = and-both (is_ascii_digit d) (all_ascii_digits ds) h in rw g.0 (digits_all ds g.1)
+digits_all (d ∷ ds) h = let g = and_parts (is_ascii_digit d) (all_ascii_digits ds) h in rw g.0 (digits_all ds g.1)
 
 pub decimal_all : (n : ℕ) → n < 2 ^ 64 → list_all is_ascii_digit (decimal n) ≡ true
 decimal_all n h = digits_all (decimal n) (digits_decimal own n h)
@@ -80,7 +80,7 @@ read_name-with_count (p ∷ q ∷ ps) rest l h = counted-decimal p (q ∷ ps) re
 begins-plain : (n : Text) → is_plain n ≡ true → begins_name n ≡ true
 unfolding begins_name
 begins-plain [] h = h
-begins-plain (c ∷ cs) h = (and-both (not (is_ascii_digit c)) _ h).0
+begins-plain (c ∷ cs) h = (and_parts (not (is_ascii_digit c)) _ h).0
 
 pub length-with_count : (ps : List Text) → length ps ≤ length (with_count ps)
 length-with_count [] = omega arith
@@ -137,7 +137,7 @@ names-step o k n ps ns rest e h = rw (e, h) refl
 read_names-parts : (ns rest : List Text) → All IsShort ns → list_all is_plain ns ≡ true → read_names (length ns) (flat_map escaped_part ns ++ rest) ≡ Some (ns, rest)
 read_names-parts [] rest l h = refl
 read_names-parts (n ∷ ns) rest l h =
-    let g = and-both (is_plain n) (list_all is_plain ns) h in
+    let g = and_parts (is_plain n) (list_all is_plain ns) h in
     let e = append_assoc (escaped_part n) (flat_map escaped_part ns) rest in
     let r : read_name ((escaped_part n ++ flat_map escaped_part ns) ++ rest) ≡ Some (n, flat_map escaped_part ns ++ rest) =
     ap read_name e ∙ read_name-part n (flat_map escaped_part ns ++ rest) (All-head IsShort n ns l) g.0 in
@@ -155,7 +155,7 @@ read_all-parts : (most : ℕ) (ns : List Text) → length ns ≤ most → All Is
 read_all-parts most [] m l h = refl
 read_all-parts zero (n ∷ ns) m l h = absurd (omega arith)
 read_all-parts (suc most) (n ∷ ns) m l h =
-    let g = and-both (is_plain n) (list_all is_plain ns) h in
+    let g = and_parts (is_plain n) (list_all is_plain ns) h in
     all-more most (escaped_part n ++ flat_map escaped_part ns) n (flat_map escaped_part ns) ns
     (read_name-part n (flat_map escaped_part ns) (All-head IsShort n ns l) g.0)
     (read_all-parts most ns (omega arith) (All-tail IsShort n ns l) g.1)
@@ -173,9 +173,9 @@ starts_no_word (w ∷ ps) = not (is_word w)
 
 none-of : {A : Type 0} (a b c d : Bool) (x y z w v : A) → (a || (b || (c || d))) ≡ false → cond a x (cond b y (cond c z (cond d w v))) ≡ v
 none-of a b c d x y z w v h =
-    let f = or-neither a (b || (c || d)) h in
-    let g = or-neither b (c || d) f.1 in
-    let k = or-neither c d g.1 in
+    let f = or_parts a (b || (c || d)) h in
+    let g = or_parts b (c || d) f.1 in
+    let k = or_parts c d g.1 in
     rw (f.0, g.0, k.0, k.1) refl
 
 read_origin-name : (ps : List Text) → starts_no_word ps ≡ true → read_origin ps ≡ option_map (λ x. (from_package x.0, x.1)) (read_name ps)
@@ -187,9 +187,9 @@ super-no_word : (ps : List Text) → starts_no_word ps ≡ true → first_fails 
 unfolding starts_no_word
 super-no_word [] h = refl
 super-no_word (w ∷ ps) h =
-    let f = or-neither (bytes_eq w (codes "package")) _ (not-true (is_word w) h) in
-    let g = or-neither (bytes_eq w (codes "self")) _ f.1 in
-    let k = or-neither (is_super w) _ g.1 in
+    let f = or_parts (bytes_eq w (codes "package")) _ (not-true (is_word w) h) in
+    let g = or_parts (bytes_eq w (codes "self")) _ f.1 in
+    let k = or_parts (is_super w) _ g.1 in
     ap not k.0
 
 with_count-no_word : (ps rest : List Text) → 0 < length ps → is_word (from_pieces ps) ≡ false → starts_no_word (with_count ps ++ rest) ≡ true
@@ -201,15 +201,15 @@ with_count-no_word (p ∷ q ∷ ps) rest l h = refl
 plain-no_word : (n : Text) → is_plain n ≡ true → is_word n ≡ false
 plain-no_word [] h = absurd (false≢true h)
 plain-no_word (c ∷ cs) h =
-    let g = and-both (not (is_ascii_digit c)) _ h in
-    let k = and-both (not (list_any (λ b. b == 47) (c ∷ cs))) (not (is_word (c ∷ cs))) g.1 in
+    let g = and_parts (not (is_ascii_digit c)) _ h in
+    let k = and_parts (not (list_any (λ b. b == 47) (c ∷ cs))) (not (is_word (c ∷ cs))) g.1 in
     not-true (is_word (c ∷ cs)) k.1
 
 plain-no_slash : (n : Text) → is_plain n ≡ true → list_any (λ b. b == 47) n ≡ false
 plain-no_slash [] h = absurd (false≢true h)
 plain-no_slash (c ∷ cs) h =
-    let g = and-both (not (is_ascii_digit c)) _ h in
-    let k = and-both (not (list_any (λ b. b == 47) (c ∷ cs))) (not (is_word (c ∷ cs))) g.1 in
+    let g = and_parts (not (is_ascii_digit c)) _ h in
+    let k = and_parts (not (list_any (λ b. b == 47) (c ∷ cs))) (not (is_word (c ∷ cs))) g.1 in
     not-true _ k.0
 
 part-no_word : (n : Text) (rest : List Text) → is_plain n ≡ true → starts_no_word (escaped_part n ++ rest) ≡ true
@@ -221,7 +221,7 @@ escaped-plain n h = ap escaped_parts (cut_none (λ c. c == 47) n (plain-no_slash
 all-plain : (ns : List Text) → list_all is_plain ns ≡ true → flat_map escaped ns ≡ flat_map escaped_part ns
 all-plain [] h = refl
 all-plain (n ∷ ns) h =
-    let g = and-both (is_plain n) (list_all is_plain ns) h in
+    let g = and_parts (is_plain n) (list_all is_plain ns) h in
     ap (λ xs. xs ++ flat_map escaped ns) (escaped-plain n g.0) ∙ ap (λ xs. escaped_part n ++ xs) (all-plain ns g.1)
 
 pub import-step : (q : Text) (ps : List Text) (ns rest : List Text) → 0 < length q → all_ascii_digits q ≡ true → read_names (digits_value 10 q) ps ≡ Some (ns, rest)
@@ -231,7 +231,7 @@ import-step q ps ns rest l a h = let z : (length q == 0) ≡ false = ne_eqb (len
 read_origin-parts : (parts rest : List Text) → 0 < length parts → length parts < 2 ^ 64 → All IsShort parts → list_all is_plain parts ≡ true → read_origin (escaped_parts parts ++ rest) ≡ Some (from_package (from_parts parts), rest)
 read_origin-parts [] rest z k l h = absurd (omega arith)
 read_origin-parts (p ∷ []) rest z k l h =
-    let g = and-both (is_plain p) true h in
+    let g = and_parts (is_plain p) true h in
     read_origin-name (escaped_part p ++ rest) (part-no_word p rest g.0) ∙ ap (option_map (λ (x : Text × List Text). (from_package x.0, x.1))) (read_name-part p rest (All-head IsShort p [] l) g.0)
 read_origin-parts (p ∷ q ∷ parts) rest z k l h =
     let ns : List Text = p ∷ q ∷ parts in
@@ -271,22 +271,22 @@ names-of p i = p.components ++ i ∷ []
 names-plain : (p : Path) (i : Text) → is_reversible p i ≡ true → list_all is_plain (names-of p i) ≡ true
 unfolding names-of
 names-plain p i h =
-    let g = and-both (is_plain_origin p.origin) _ h in
-    let k = and-both (list_all is_plain p.components) (is_plain i) g.1 in
+    let g = and_parts (is_plain_origin p.origin) _ h in
+    let k = and_parts (list_all is_plain p.components) (is_plain i) g.1 in
     list_all-append is_plain p.components (i ∷ []) k.0 (ap (λ (b : Bool). b && true) k.1)
 
 item-pieces : (p : Path) (i : Text) → is_reversible p i ≡ true → escaped_item p i ≡ escaped_origin p.origin ++ flat_map escaped_part (names-of p i)
 unfolding names-of
 item-pieces p i h =
-    let g = and-both (is_plain_origin p.origin) _ h in
-    let k = and-both (list_all is_plain p.components) (is_plain i) g.1 in
+    let g = and_parts (is_plain_origin p.origin) _ h in
+    let k = and_parts (list_all is_plain p.components) (is_plain i) g.1 in
     let e : flat_map escaped_part (p.components ++ i ∷ []) ≡ flat_map escaped_part p.components ++ escaped_part i =
     flat_map-append escaped_part p.components (i ∷ []) ∙ ap (λ xs. flat_map escaped_part p.components ++ xs) (append-nil (escaped_part i)) in
     rw (all-plain p.components k.0, escaped-plain i k.1, e) (append_assoc (escaped_origin p.origin) (flat_map escaped_part p.components) (escaped_part i))
 
 first-name : (ns : List Text) (i : Text) → list_all is_plain (ns ++ i ∷ []) ≡ true → starts_no_word (flat_map escaped_part (ns ++ i ∷ [])) ≡ true
-first-name [] i h = part-no_word i [] (and-both (is_plain i) true h).0
-first-name (n ∷ ns) i h = part-no_word n (flat_map escaped_part (ns ++ i ∷ [])) (and-both (is_plain n) _ h).0
+first-name [] i h = part-no_word i [] (and_parts (is_plain i) true h).0
+first-name (n ∷ ns) i h = part-no_word n (flat_map escaped_part (ns ++ i ∷ [])) (and_parts (is_plain n) _ h).0
 
 unescaped-item : (p : Path) (i : Text) → HasShortNames p i → is_reversible p i ≡ true → unescaped (escaped_item p i) ≡ Some (p, i)
 unfolding names-of
@@ -297,7 +297,7 @@ unescaped-item p i l h =
     let q = names-plain p i h in
     ap unescaped e
     ∙ whole-step (read_origin (escaped_origin p.origin ++ ps)) p.origin ps ns (Some (p, i))
-    (read_origin-escaped p.origin ps l.0 (and-both (is_plain_origin p.origin) _ h).0 (first-name p.components i q))
+    (read_origin-escaped p.origin ps l.0 (and_parts (is_plain_origin p.origin) _ h).0 (first-name p.components i q))
     (read_all-parts (length ps) ns (parts_all ns) (All-push IsShort p.components i l.1 l.2) q)
     (below-item p.origin p.components i)
 
@@ -317,7 +317,7 @@ with_count-clean : (ps : List Text) → length ps < 2 ^ 64 → list_all (clean i
 with_count-clean [] l h = refl
 with_count-clean (p ∷ []) l h = h
 with_count-clean (p ∷ q ∷ ps) l h =
-    let g = and-both (clean is_line p) (list_all (clean is_line) (q ∷ ps)) h in
+    let g = and_parts (clean is_line p) (list_all (clean is_line) (q ∷ ps)) h in
     let k : length (q ∷ ps) < 2 ^ 64 = omega arith in
     let d : list_any is_line (decimal (length (q ∷ ps)) ++ p) ≡ false =
     list_any-append is_line (decimal (length (q ∷ ps))) p (digits_clean (decimal (length (q ∷ ps))) (digits_decimal own (length (q ∷ ps)) k)) (not-true _ g.0) in

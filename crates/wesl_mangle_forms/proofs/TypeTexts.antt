@@ -21,9 +21,9 @@ use Rattle.wesl_tree_syntax.specs.declared.expression.TypeExpression.{TypeExpres
 use Rattle.wesl_mangle_forms.specs.TypeText.{opening, between, closing, bracketed, mark_before, texts_in, tree_text, is_literal_or_type, is_normal, is_normal_type}
 use Rattle.wesl_mangle_forms.specs.Written.{AddsText}
 use Rattle.wesl_mangle_forms.specs.declared.writer.Writer.{Writer}
-use Rattle.wesl_mangle_forms.proofs.Cuts.{and-both}
 use Rattle.wesl_mangle_forms.proofs.Written.{then, worded}
 use Rattle.wesl_tree_syntax.proofs.Views.{view_argument, view_literal, view_name}
+use Rattle.std.proofs.lemmas.Bool.{and_parts}
 
 -- one more text at the end
 pub join-last : (sep x : Text) (ts : List Text) (t : Text) → (x ++ flat_map (λ y. sep ++ y) ts) ++ (sep ++ t) ≡ x ++ flat_map (λ y. sep ++ y) (ts ++ t ∷ [])
@@ -111,8 +111,8 @@ pub view_type : (t : TypeExpression) → type_view t ≡ type_tree (out-TypeExpr
 view_type t = ap type_view (sym (roll-out-TypeExpression t)) ∙ view_type_of (out-TypeExpression t).path (out-TypeExpression t).ident (out-TypeExpression t).template_args
 
 below-ident : (n : ℕ) (p : Option (Box ModulePath)) (i : Ident) (o : Option (Vec TemplateArg)) → tree_below n (type_tree p i o) ≡ true → nat_lt i.0 n ≡ true
-below-ident n None i o h = (and-both _ _ (and-both _ _ h).0).0
-below-ident n (Some p) i o h = (and-both _ _ (and-both _ _ h).0).0
+below-ident n None i o h = (and_parts _ _ (and_parts _ _ h).0).0
+below-ident n (Some p) i o h = (and_parts _ _ (and_parts _ _ h).0).0
 
 text-alone : (names : List Text) (p : Option (Box ModulePath)) (i : Ident) → get_or names i.0 [] ≡ tree_text names (type_tree p i None)
 text-alone names None i = sym (append-nil _)

@@ -1,6 +1,6 @@
 -- The words of the Unicode form stand for the item that they were made of.
 use Rattle.std.proofs.Common.{◌≡◌, ◌≢◌, ◌<◌, ◌≤◌, ◌+◌, ℕ, zero, suc, Bool, true, false, not, cond, ◌&&◌, List, [], ◌∷◌, ◌++◌, length, get_or, map, take, replicate, Option, Some, refl, ap, sym, ◌∙◌, ◌==◌, arith, append_assoc, length-append, codes}
-use Rattle.std.proofs.lemmas.Bool.{false≢true}
+use Rattle.std.proofs.lemmas.Bool.{and_parts, false≢true, or_parts}
 use Rattle.std.proofs.lemmas.List.{take_more, map-append, append-nil, length-replicate, replicate-append-replicate}
 use Rattle.std.specs.List.{prefix_len, list_all}
 use Rattle.std.specs.Str.{bytes_eq}
@@ -8,24 +8,25 @@ use Rattle.wesl_tree_names.specs.Path.{Text, Origin, absolute, relative, from_pa
 use Rattle.wesl_mangle_forms.specs.Escape.{◌>>=◌, is_super, item_below}
 use Rattle.wesl_mangle_forms.specs.Laws.{UnicodeRoundTrip}
 use Rattle.wesl_mangle_forms.specs.Unicode.{mark, separator, from_words, origin_words, words_of_item, words_after, words_of, read_origin_words, item_of_words, has_mark, is_own_word, is_own_origin, has_own_words}
-use Rattle.wesl_mangle_forms.proofs.Cuts.{and-both, or-neither, not-true, first_fails, prefix_len-all, list_all-append}
+use Rattle.wesl_mangle_forms.proofs.Cuts.{not-true, first_fails, prefix_len-all, list_all-append}
 use Rattle.wesl_mangle_forms.proofs.Reading.{below-item, supers, read_origin-supers}
 use Rattle.wesl_mangle_forms.proofs.TypeTexts.{join-last}
+use mathlib.Core.Bool.{and-false}
 
 none-of-three : {A : Type 0} (a b c : Bool) (x y z v : A) → (not a && (not b && not c)) ≡ true → cond a x (cond b y (cond c z v)) ≡ v
 none-of-three a b c x y z v h =
-    let f = and-both (not a) (not b && not c) h in
-    let g = and-both (not b) (not c) f.1 in
+    let f = and_parts (not a) (not b && not c) h in
+    let g = and_parts (not b) (not c) f.1 in
     rw (not-true a f.0, not-true b g.0, not-true c g.1) refl
 
 own-three : (w : Text) → is_own_word w ≡ true → (not (bytes_eq w (codes "package")) && (not (bytes_eq w (codes "self")) && not (is_super w))) ≡ true
-own-three w h = (and-both (not (has_mark w)) _ (and-both (not (length w == 0)) _ h).1).1
+own-three w h = (and_parts (not (has_mark w)) _ (and_parts (not (length w == 0)) _ h).1).1
 
 own-unmarked : (w : Text) → is_own_word w ≡ true → has_mark w ≡ false
-own-unmarked w h = not-true (has_mark w) (and-both (not (has_mark w)) _ (and-both (not (length w == 0)) _ h).1).0
+own-unmarked w h = not-true (has_mark w) (and_parts (not (has_mark w)) _ (and_parts (not (length w == 0)) _ h).1).0
 
 own-super : (w : Text) → is_own_word w ≡ true → not (is_super w) ≡ true
-own-super w h = (and-both (not (bytes_eq w (codes "self"))) (not (is_super w)) (and-both (not (bytes_eq w (codes "package"))) _ (own-three w h)).1).1
+own-super w h = (and_parts (not (bytes_eq w (codes "self"))) (not (is_super w)) (and_parts (not (bytes_eq w (codes "package"))) _ (own-three w h)).1).1
 
 read_origin-words : (o : Origin) (rest : List Text) → is_own_origin o ≡ true → first_fails is_super rest ≡ true → read_origin_words (origin_words o ++ rest) ≡ Some (o, rest)
 read_origin-words absolute rest h s = refl
@@ -38,15 +39,15 @@ read_origin-words (from_package w) rest h s =
 
 first-own : (cs : List Text) (i : Text) → list_all is_own_word cs ≡ true → is_own_word i ≡ true → first_fails is_super (cs ++ i ∷ []) ≡ true
 first-own [] i h k = own-super i k
-first-own (c ∷ cs) i h k = own-super c (and-both (is_own_word c) (list_all is_own_word cs) h).0
+first-own (c ∷ cs) i h k = own-super c (and_parts (is_own_word c) (list_all is_own_word cs) h).0
 
 pub words-step : (r : Option (Origin × List Text)) (o : Origin) (ws : List Text) → r ≡ Some (o, ws) → (r >>= λ x. item_below x.0 x.1) ≡ item_below o ws
 words-step r o ws e = rw e refl
 
 words_round_trip : (p : Path) (i : Text) → has_own_words p i ≡ true → item_of_words (words_of_item p i) ≡ Some (p, i)
 words_round_trip p i h =
-    let g = and-both (is_own_origin p.origin) _ h in
-    let k = and-both (list_all is_own_word p.components) (is_own_word i) g.1 in
+    let g = and_parts (is_own_origin p.origin) _ h in
+    let k = and_parts (list_all is_own_word p.components) (is_own_word i) g.1 in
     let ws : List Text = p.components ++ i ∷ [] in
     ap item_of_words (append_assoc (origin_words p.origin) p.components (i ∷ []))
     ∙ words-step (read_origin_words (origin_words p.origin ++ ws)) p.origin ws (read_origin-words p.origin ws g.0 (first-own p.components i k.0 k.1))
@@ -59,25 +60,21 @@ two-fail false b x h = refl
 two-fail true false x h = refl
 two-fail true true x h = absurd (false≢true (sym h))
 
-one-fails : (a : Bool) → (a && false) ≡ false
-one-fails true = refl
-one-fails false = refl
-
 no-cut : (c d : ℕ) (cs : Text) → ((c == 0xcb) && ((d == 0x90) && true)) ≡ false → bytes_eq (take 4 (c ∷ d ∷ cs)) separator ≡ false
 no-cut c d cs h = two-fail (c == 0xcb) (d == 0x90) (bytes_eq (take 2 cs) mark) h
 
 cut-word : (w rest : Text) → has_mark w ≡ false → words_after 0 (w ++ (separator ++ rest)) ≡ w ∷ words_after 0 rest
 cut-word [] rest h = refl
-cut-word (c ∷ []) rest h = rw (one-fails (c == 0xcb)) refl
+cut-word (c ∷ []) rest h = rw (and-false (c == 0xcb)) refl
 cut-word (c ∷ d ∷ w) rest h =
-    let g = or-neither (bytes_eq (take 2 (c ∷ d ∷ w)) mark) (has_mark (d ∷ w)) h in
+    let g = or_parts (bytes_eq (take 2 (c ∷ d ∷ w)) mark) (has_mark (d ∷ w)) h in
     rw (no-cut c d (w ++ (separator ++ rest)) g.0, cut-word (d ∷ w) rest g.1) refl
 
 cut-last : (w : Text) → has_mark w ≡ false → words_after 0 w ≡ w ∷ []
 cut-last [] h = refl
-cut-last (c ∷ []) h = rw (one-fails (c == 0xcb)) refl
+cut-last (c ∷ []) h = rw (and-false (c == 0xcb)) refl
 cut-last (c ∷ d ∷ w) h =
-    let g = or-neither (bytes_eq (take 2 (c ∷ d ∷ w)) mark) (has_mark (d ∷ w)) h in
+    let g = or_parts (bytes_eq (take 2 (c ∷ d ∷ w)) mark) (has_mark (d ∷ w)) h in
     rw (no-cut c d w g.0, cut-last (d ∷ w) g.1) refl
 
 abbrev is_unmarked : Text → Bool
@@ -85,9 +82,9 @@ is_unmarked w = not (has_mark w)
 
 cut-words : (ws : List Text) → 0 < length ws → list_all is_unmarked ws ≡ true → words_of (from_words ws) ≡ ws
 cut-words [] l h = absurd (omega arith)
-cut-words (w ∷ []) l h = ap (words_after 0) (append-nil w) ∙ cut-last w (not-true _ (and-both (is_unmarked w) true h).0)
+cut-words (w ∷ []) l h = ap (words_after 0) (append-nil w) ∙ cut-last w (not-true _ (and_parts (is_unmarked w) true h).0)
 cut-words (w ∷ v ∷ ws) l h =
-    let g = and-both (is_unmarked w) (list_all is_unmarked (v ∷ ws)) h in
+    let g = and_parts (is_unmarked w) (list_all is_unmarked (v ∷ ws)) h in
     cut-word w (from_words (v ∷ ws)) (not-true _ g.0) ∙ ap (w ∷◌) (cut-words (v ∷ ws) (omega arith) g.1)
 
 supers-unmarked : (n : ℕ) → list_all is_unmarked (replicate n (codes "super")) ≡ true
@@ -102,12 +99,12 @@ origin-unmarked (from_package w) h = rw (own-unmarked w h) refl
 
 names-unmarked : (ns : List Text) → list_all is_own_word ns ≡ true → list_all is_unmarked ns ≡ true
 names-unmarked [] h = refl
-names-unmarked (n ∷ ns) h = let g = and-both (is_own_word n) (list_all is_own_word ns) h in rw (own-unmarked n g.0) (names-unmarked ns g.1)
+names-unmarked (n ∷ ns) h = let g = and_parts (is_own_word n) (list_all is_own_word ns) h in rw (own-unmarked n g.0) (names-unmarked ns g.1)
 
 pub unicode_round_trip : UnicodeRoundTrip
 unicode_round_trip p i h =
-    let g = and-both (is_own_origin p.origin) _ h in
-    let k = and-both (list_all is_own_word p.components) (is_own_word i) g.1 in
+    let g = and_parts (is_own_origin p.origin) _ h in
+    let k = and_parts (list_all is_own_word p.components) (is_own_word i) g.1 in
     let a = list_all-append is_unmarked (origin_words p.origin) p.components (origin-unmarked p.origin g.0) (names-unmarked p.components k.0) in
     let b : list_all is_unmarked (i ∷ []) ≡ true = rw (own-unmarked i k.1) refl in
     let l = length-append (origin_words p.origin ++ p.components) (i ∷ []) in

@@ -13,6 +13,7 @@ use Rattle.wesl_tree_names.proofs.Order.{path_eq-view, same_path-decides}
 use Rattle.wesl_program.specs.Bundle.{Module, later, unit_at}
 use Rattle.wesl_program.specs.Holds.{Holds, values_of, value_at}
 use Rattle.wesl_program.specs.declared.modules.BundleUnits.{BundleUnits}
+use Rattle.std.proofs.lemmas.Bool.{false_from_ne_true}
 
 abbrev Entry : Type 0
 Entry = ModulePath × BorrowedValue
@@ -37,23 +38,19 @@ same p q = (same_path-decides p q).0
 itself : (p q : Path) → p ≡ q → same_path p q ≡ true
 itself p q = (same_path-decides p q).1
 
-differ : (b : Bool) → (b ≡ true → ⊥) → b ≡ false
-differ true h = absurd (h refl)
-differ false h = refl
-
 -- the path put is the first one
 over-first : (p q r : Path) (new old : Data) (others : Option Data) (c : Bool) → same_path p r ≡ true → same_path q r ≡ c
     → (if c then Some new else others) ≡ (if same_path p q then Some new else (if c then Some old else others))
 over-first p q r new old others true is c_is = rw (itself p q (same p r is ∙ sym (same q r c_is))) refl
 over-first p q r new old others false is c_is =
-    let apart : same_path p q ≡ false = differ (same_path p q) (λ e. true≢false (sym (itself q r (sym (same p q e) ∙ same p r is)) ∙ c_is)) in
+    let apart : same_path p q ≡ false = false_from_ne_true (same_path p q) (λ e. true≢false (sym (itself q r (sym (same p q e) ∙ same p r is)) ∙ c_is)) in
     rw apart refl
 
 -- it is another
 past-first : (p q r : Path) (new old : Data) (others after : Option Data) (c : Bool) → same_path p r ≡ false → same_path q r ≡ c → after ≡ (if same_path p q then Some new else others)
     → (if c then Some old else after) ≡ (if same_path p q then Some new else (if c then Some old else others))
 past-first p q r new old others after true is c_is h =
-    let apart : same_path p q ≡ false = differ (same_path p q) (λ e. true≢false (sym (itself p r (same p q e ∙ same q r c_is)) ∙ is)) in
+    let apart : same_path p q ≡ false = false_from_ne_true (same_path p q) (λ e. true≢false (sym (itself p r (same p q e ∙ same q r c_is)) ∙ is)) in
     rw apart refl
 past-first p q r new old others after false is c_is h = h
 
@@ -66,7 +63,7 @@ either p q k v e es fs false is_k is h = past-first p q (path_view e.0) (borrowe
 single : (p q : Path) (d : Data) (c : Bool) → same_path q p ≡ c → (if c then Some d else None) ≡ (if same_path p q then Some d else None)
 single p q d true c_is = rw (itself p q (sym (same q p c_is))) refl
 single p q d false c_is =
-    let apart : same_path p q ≡ false = differ (same_path p q) (λ e. true≢false (sym (itself q p (sym (same p q e))) ∙ c_is)) in
+    let apart : same_path p q ≡ false = false_from_ne_true (same_path p q) (λ e. true≢false (sym (itself q p (sym (same p q e))) ∙ c_is)) in
     rw apart refl
 
 value_at-insert : (q : Path) (es : List Entry) (k : ModulePath) (v : BorrowedValue) → value_at q (values_of (insert_entry path_eq es k v)) ≡ (if same_path (path_view k) q then Some (borrowed_view v) else value_at q (values_of es))

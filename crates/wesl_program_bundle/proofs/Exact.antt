@@ -23,6 +23,7 @@ use Rattle.wesl_cond_features.specs.declared.features.Feature.TheVariants as fea
 use Rattle.wesl_program_bundle.specs.declared.options.Naming.TheVariants as naming
 use Rattle.wesl_program_bundle.proofs.Flags.{object-get}
 use Rattle.wesl_program_bundle.proofs.Listed.{below-dependencies, below-modules, made-package, made-package-module, modules-listed, packages-listed}
+use mathlib.Core.Bool.{or-true}
 
 -- ---- options that are all there
 
@@ -352,19 +353,15 @@ unread f (index i ∷ path) d breaks h = unread breaks.0 path breaks.1 breaks.4 
 
 -- ---- numbers
 
-or-right : (a : Bool) → (a || true) ≡ true
-or-right true = refl
-or-right false = refl
-
 float-member : (k : Text) (e : Data) (ms : Members) → HasMember k e ms → has_float e ≡ true → members_have_float ms ≡ true
 float-member k e no_members has here = absurd has
 float-member k e (member l d ms) (inl same) here = ap (λ x. has_float x || members_have_float ms) (sym same.1) ∙ ap (λ b. b || members_have_float ms) here
-float-member k e (member l d ms) (inr has) here = ap (λ b. has_float d || b) (float-member k e ms has here) ∙ or-right (has_float d)
+float-member k e (member l d ms) (inr has) here = ap (λ b. has_float d || b) (float-member k e ms has here) ∙ or-true (has_float d)
 
 float-item : (i : ℕ) (e : Data) (ds : Items) → get_item i ds ≡ Some e → has_float e ≡ true → items_have_float ds ≡ true
 float-item i e no_items found here = cc
 float-item zero e (item d ds) found here = let same : d ≡ e = cc in ap (λ x. has_float x || items_have_float ds) same ∙ ap (λ b. b || items_have_float ds) here
-float-item (suc i) e (item d ds) found here = ap (λ b. has_float d || b) (float-item i e ds found here) ∙ or-right (has_float d)
+float-item (suc i) e (item d ds) found here = ap (λ b. has_float d || b) (float-item i e ds found here) ∙ or-true (has_float d)
 
 pub float-there : (path : List Part) (d : Data) → IsFloatAt path d → has_float d ≡ true
 float-there [] null h = cc

@@ -14,6 +14,7 @@ use Rattle.wesl_json_form.proofs.Lists.{Entry as BorrowedEntry, members_view-mor
 use Rattle.wesl_tree_names.specs.Path.{Text}
 use Rattle.wesl_json_form.specs.Keys.{HasMember}
 use Rattle.wesl_program_bundle.proofs.Readings.{longer}
+use Rattle.std.proofs.lemmas.Bool.{or_parts}
 
 -- the first is not, and what follows from the second
 past : (a b : Bool) {c : Bool} → (a || b) ≡ false → (b ≡ false → c ≡ false) → (a || c) ≡ false
@@ -53,22 +54,18 @@ whole-turn vs i v low e before here = ap (λ ws. items_have_float (borrowed_item
 
 -- ---- members of light values
 
-both : (a b : Bool) → (a || b) ≡ false → (a ≡ false) × (b ≡ false)
-both true b h = cc
-both false b h = (refl, h)
-
 put_at-whole : (o : Ordering) (k l : Text) (d e : Data) (ms : Members) → has_float d ≡ false → members_have_float (member l e ms) ≡ false → members_have_float (put k d ms) ≡ false → members_have_float (match_ordering o (member k d (member l e ms)) (member l d ms) (member l e (put k d ms))) ≡ false
 put_at-whole Less k l d e ms here before later = rw here before
-put_at-whole Equal k l d e ms here before later = rw here (both (has_float e) (members_have_float ms) before).1
+put_at-whole Equal k l d e ms here before later = rw here (or_parts (has_float e) (members_have_float ms) before).1
 put_at-whole Greater k l d e ms here before later =
-    let first : has_float e ≡ false = (both (has_float e) (members_have_float ms) before).0 in
+    let first : has_float e ≡ false = (or_parts (has_float e) (members_have_float ms) before).0 in
     rw first later
 
 -- a member more, whether or not it takes the place of another
 put-whole : (k : Text) (d : Data) (ms : Members) → has_float d ≡ false → members_have_float ms ≡ false → members_have_float (put k d ms) ≡ false
 put-whole k d no_members here before = rw here
 put-whole k d (member l e ms) here before =
-    put_at-whole (slice_cmp nat_cmp k l) k l d e ms here before (put-whole k d ms here (both (has_float e) (members_have_float ms) before).1)
+    put_at-whole (slice_cmp nat_cmp k l) k l d e ms here before (put-whole k d ms here (or_parts (has_float e) (members_have_float ms) before).1)
 
 -- a turn of the loop over members
 pub whole-member : (ms : List BorrowedEntry) (i : ℕ) (m : BorrowedEntry) → i < length ms → m ≡ get_or ms i m → members_have_float (borrowed_members_view (take i ms)) ≡ false → has_float (borrowed_view m.1) ≡ false → members_have_float (borrowed_members_view (take (i + 1) ms)) ≡ false

@@ -11,6 +11,7 @@ use Rattle.wesl_tree_names.specs.PathOrder.{same_path}
 use Rattle.wesl_tree_names.specs.declared.path.ModulePath.{ModulePath}
 use Rattle.wesl_tree_names.proofs.Order.{path_eq-view, same_path-decides}
 use Rattle.wesl_resolve.specs.Texts.{texts_of, text_at, put, IsLast}
+use Rattle.std.proofs.lemmas.Bool.{false_from_ne_true}
 
 chosen : (b : Bool) (text : String Global) (others : Option (String Global)) (o : Option Text) → o ≡ option_map string_bytes others
     → (if b then Some (string_bytes text) else o) ≡ option_map string_bytes (cond b (Some text) others)
@@ -39,23 +40,19 @@ same p q = (same_path-decides p q).0
 itself : (p q : Path) → p ≡ q → same_path p q ≡ true
 itself p q = (same_path-decides p q).1
 
-differ : (b : Bool) → (b ≡ true → ⊥) → b ≡ false
-differ true h = absurd (h refl)
-differ false h = refl
-
 -- the path put is the first one
 over-first : (p q r : Path) (text old : Text) (others : Option Text) (c : Bool) → same_path p r ≡ true → same_path q r ≡ c
     → (if c then Some text else others) ≡ (if same_path p q then Some text else (if c then Some old else others))
 over-first p q r text old others true is c_is = rw (itself p q (same p r is ∙ sym (same q r c_is))) refl
 over-first p q r text old others false is c_is =
-    let apart : same_path p q ≡ false = differ (same_path p q) (λ e. true≢false (sym (itself q r (sym (same p q e) ∙ same p r is)) ∙ c_is)) in
+    let apart : same_path p q ≡ false = false_from_ne_true (same_path p q) (λ e. true≢false (sym (itself q r (sym (same p q e) ∙ same p r is)) ∙ c_is)) in
     rw apart refl
 
 -- it is another
 past-first : (p q r : Path) (text old : Text) (others after : Option Text) (c : Bool) → same_path p r ≡ false → same_path q r ≡ c → after ≡ (if same_path p q then Some text else others)
     → (if c then Some old else after) ≡ (if same_path p q then Some text else (if c then Some old else others))
 past-first p q r text old others after true is c_is h =
-    let apart : same_path p q ≡ false = differ (same_path p q) (λ e. true≢false (sym (itself p r (same p q e ∙ same q r c_is)) ∙ is)) in
+    let apart : same_path p q ≡ false = false_from_ne_true (same_path p q) (λ e. true≢false (sym (itself p r (same p q e ∙ same q r c_is)) ∙ is)) in
     rw apart refl
 past-first p q r text old others after false is c_is h = h
 
@@ -67,7 +64,7 @@ text_at-either p q text e es false is h = past-first p q e.0 text e.1 (text_at q
 single : (p q : Path) (text : Text) (c : Bool) → same_path q p ≡ c → (if c then Some text else None) ≡ (if same_path p q then Some text else None)
 single p q text true c_is = rw (itself p q (sym (same q p c_is))) refl
 single p q text false c_is =
-    let apart : same_path p q ≡ false = differ (same_path p q) (λ e. true≢false (sym (itself q p (sym (same p q e))) ∙ c_is)) in
+    let apart : same_path p q ≡ false = false_from_ne_true (same_path p q) (λ e. true≢false (sym (itself q p (sym (same p q e))) ∙ c_is)) in
     rw apart refl
 
 -- the text that was put last is at its path

@@ -3,7 +3,7 @@ use Rattle.std.proofs.Common.{◌≡◌, ℕ, zero, suc, ◌+◌, ◌<◌, ◌�
 use Rattle.std.specs.List.{swap}
 use Rattle.std.proofs.Math.Seq.{take-suc}
 use Rattle.std.proofs.lemmas.List.{take-set-le, length-set, take_all, length-take-le, get_or-drop, drop-set-lt, append-nil}
-use Rattle.std.proofs.lemmas.Bool.{cases_eq}
+use Rattle.std.proofs.lemmas.Bool.{and_parts, cases_eq}
 use Rattle.std.specs.Prelude.{Option, Some, None, MatchOption}
 use Rattle.std.specs.Option.{IsSome}
 use Rattle.wesl_tree_syntax.specs.Tree.{Forest, Tree, end, tree, forest_of, label_below, forest_below, tree_below}
@@ -24,22 +24,18 @@ picked_forest view (false ∷ ms) [] = refl
 picked_forest view (true ∷ ms) (x ∷ xs) = ap (λ f. tree (view x).label (view x).children f) (picked_forest view ms xs)
 picked_forest view (false ∷ ms) (x ∷ xs) = picked_forest view ms xs
 
-both : (a b : Bool) → (a && b) ≡ true → (a ≡ true) × (b ≡ true)
-both true b h = (refl, h)
-both false b h = cc
-
 -- among the marked ones, the identifiers stay below
 pub marked_below : (n : ℕ) (ms : List Bool) (f : Forest) → forest_below n f ≡ true → forest_below n (marked ms f) ≡ true
 marked_below n [] f h = refl
 marked_below n (true ∷ ms) end h = refl
 marked_below n (false ∷ ms) end h = refl
 marked_below n (true ∷ ms) (tree l children others) h =
-    let a = both (label_below n l && forest_below n children) (forest_below n others) h in
+    let a = and_parts (label_below n l && forest_below n children) (forest_below n others) h in
     let r = marked_below n ms others a.1 in
     let l' = a.0 in
     rw (l', r) refl
 marked_below n (false ∷ ms) (tree l children others) h =
-    marked_below n ms others (both (label_below n l && forest_below n children) (forest_below n others) h).1
+    marked_below n ms others (and_parts (label_below n l && forest_below n children) (forest_below n others) h).1
 
 picked_more : {A : Type 0} (ms : List Bool) (xs : List A) (m : Bool) (x : A) → length ms ≡ length xs → picked (ms ++ m ∷ []) (xs ++ x ∷ []) ≡ picked ms xs ++ cond m (x ∷ []) []
 picked_more [] [] true x h = refl
@@ -154,8 +150,8 @@ goes_forward ms (x ∷ xs) now next j e h m c = moved_forward ms (x ∷ xs) now 
 pub stripped_below : (u : UnitView) (ms : List Bool) (d : Tree) → unit_below u ≡ true → d ≡ record { label = u.declarations.label; children = marked ms u.declarations.children } → unit_below (record u { declarations = d }) ≡ true
 stripped_below u ms d h e =
     let n = length u.names in
-    let a = both (tree_below n u.imports && tree_below n u.directives) (tree_below n u.declarations) h in
-    let b = both (label_below n u.declarations.label) (forest_below n u.declarations.children) a.1 in
+    let a = and_parts (tree_below n u.imports && tree_below n u.directives) (tree_below n u.declarations) h in
+    let b = and_parts (label_below n u.declarations.label) (forest_below n u.declarations.children) a.1 in
     let front = a.0 in
     let l = b.0 in
     let f = marked_below n ms u.declarations.children b.1 in

@@ -13,10 +13,11 @@ use Rattle.wesl_scope_occurrences.specs.Events.{Event, begins, meets, opens, clo
 use Rattle.wesl_scope_occurrences.specs.Collected.{Collected, nothing, last_ended, collecting, collected}
 use Rattle.wesl_scope_occurrences.proofs.Collecting.{collected_occurrences}
 use Rattle.wesl_scope_open.specs.Matched.{AreMetBelow}
-use Rattle.wesl_scope_open.proofs.Runs.{or_again, or_none}
+use Rattle.wesl_scope_open.proofs.Runs.{or_again}
 use Rattle.wesl_scope_clash.specs.declared.agreed.Agreed.{Agreed}
 use Rattle.wesl_scope_clash.specs.Judging.{with_number, Row, Judging, seen_here, visible_again, name_at, meeting, judging, judged}
 use Rattle.wesl_scope_clash.proofs.Walked.{differs, is_there, with_differs, Tests, marked, outside_wide}
+use mathlib.Core.Bool.{or-false}
 
 -- ---- identifiers, by what is told when they are met
 -- the same whether their declarations have ended or not
@@ -126,7 +127,7 @@ module _ (alike : List ℕ) (wide count : ℕ) where
     back s (r ∷ rs) = is.other s r rs
 
     pub gathered : (es : List Event) (s : Judging) → AreMetBelow count es → Fits wide count s → g (judged alike s es) ≡ (g s || any_met q es)
-    gathered [] s below f = sym (or_none (g s))
+    gathered [] s below f = sym (or-false (g s))
     gathered (begins ∷ es) s below f = gathered es s below.1 f
     gathered (meets here r i ∷ es) s below f =
         gathered es (meeting alike r here i s) below.1 (fits_met s r here i f) ∙ (ap (λ b. b || any_met q es) (is.met s r here i below.0 f) ∙ or_again (g s) (q r i) (any_met q es))
@@ -136,7 +137,7 @@ module _ (alike : List ℕ) (wide count : ℕ) where
 
   -- ---- the marks
   or_false : (x : Bool) → x ≡ (x || false)
-  or_false x = sym (or_none x)
+  or_false x = sym (or-false x)
 
   pub bound_gathers : (m : ℕ) → Gathers (λ s. get_or s.bound m false) (λ r i. is_binder r && i == m)
   bound_gathers m = record { met = met; other = λ s row rows. refl }

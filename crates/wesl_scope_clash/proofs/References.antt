@@ -9,11 +9,12 @@ use Rattle.wesl_scope_occurrences.specs.Events.{EventOf, Event, begins, meets, o
 use Rattle.wesl_scope_open.specs.Open.{Open, stepped, read_in}
 use Rattle.wesl_scope_open.specs.Named.{event_as}
 use Rattle.wesl_scope_open.specs.Matched.{AreMetBelow}
-use Rattle.wesl_scope_open.proofs.Runs.{AllWithin, read_at, or_again, or_none}
+use Rattle.wesl_scope_open.proofs.Runs.{AllWithin, read_at, or_again}
 use Rattle.wesl_scope_clash.specs.Judging.{Row, Judging, seen_here, right_of, outside_with, visible_again, name_at, meeting, judging, judged}
 use Rattle.wesl_scope_clash.proofs.Marked.{yes, mark, alike_to, other_than}
 use Rattle.wesl_scope_clash.proofs.Walked.{is_there, Knows, Tests, knows_next, judged_by, seen_right, seen_outside, outside_marked}
 use Rattle.wesl_scope_clash.proofs.Along.{Lasts, lasts, sketches, sketch, Fits, fits_next}
+use mathlib.Core.Bool.{or-false}
 
 -- how an identifier stands and its number, as far as it matters here
 abbrev pub Shape : Type 0
@@ -137,7 +138,7 @@ module _ (names : List Text) (alike : List ℕ) (wide : ℕ) (tests : (m : ℕ) 
   judges_back s d (r ∷ rs) os j = j
 
   pub judges : (es : List Event) (s : Judging) (S : Openings) (os : List (Occurrence ℕ)) → Beside s S es os → Judges s.right s.outside (judged alike s es) os
-  judges [] s S [] b = record { rights = and_none s.right; outsides = λ m. sym (or_none (get_or s.outside m false)) }
+  judges [] s S [] b = record { rights = and_none s.right; outsides = λ m. sym (or-false (get_or s.outside m false)) }
   judges [] s S (o ∷ os) b = absurd (let e = b.same in let z : ⊥ = cc in z)
   judges (begins ∷ es) s S os b = judges es s (next S begins) os (beside_next begins es s S os os b b.same b.reads)
   judges (opens ∷ es) s S os b = judges es (judging alike s opens) (next S opens) os (beside_next opens es s S os os b b.same b.reads)

@@ -1,15 +1,12 @@
 -- What trees with other numbers say.
-use Rattle.std.proofs.Common.{◌≡◌, ℕ, ◌+◌, ◌≤◌, Bool, true, false, ◌&&◌, List, [], ◌∷◌, ◌++◌, length, map, refl, sym, ◌∙◌, ap, arith, append_assoc, length-append}
+use Rattle.std.proofs.Common.{◌≡◌, ℕ, ◌+◌, ◌≤◌, Bool, true, ◌&&◌, List, [], ◌∷◌, ◌++◌, length, map, refl, sym, ◌∙◌, ap, arith, append_assoc, length-append}
 use Rattle.std.specs.Prelude.{nat_lt}
 use Rattle.std.proofs.lemmas.List.{map-append}
 use Rattle.wesl_tree_syntax.specs.Tree.{Label, LabelOf, Forest, ForestOf, end, tree, kind, at, ident, text, texts, truth, unary, binary, assignment, space, access, path, identifiers, respell_forest, forest_below}
 use Rattle.wesl_tree_syntax.specs.Unit.{UnitOf, forest_of_unit}
 use Rattle.wesl_scope_clash.specs.Leaves.{are_leaves, KeepsSpelling}
 use Rattle.wesl_tree_copies.specs.Renumbered.{renumbered, after}
-
-pub both : (a b : Bool) → (a && b) ≡ true → (a ≡ true) × (b ≡ true)
-both true b h = (refl, h)
-both false b h = cc
+use Rattle.std.proofs.lemmas.Bool.{and_parts}
 
 abbrev pub all_below : ℕ → List ℕ → Bool
 all_below n [] = true
@@ -46,31 +43,31 @@ module _ where
       record {
         splits = ap (λ xs. m ∷ xs) t.splits;
         many = omega (arith, t.many);
-        below = λ n l. let p = both (nat_lt m n) (all_below n ms) l in let q = t.below n p.1 in (rw (p.0, q.0) refl, q.1);
+        below = λ n l. let p = and_parts (nat_lt m n) (all_below n ms) l in let q = t.below n p.1 in (rw (p.0, q.0) refl, q.1);
       }
   taken (tree (ident r x) (tree l children beside) others) ns v h = absurd (let x : ⊥ = cc in x)
   taken (tree (kind k) children others) ns v h =
-      let w = both (are_leaves children) (are_leaves others) v in let t = taken_node children others ns h (taken children ns w.0) (taken others (after children ns) w.1) in record { splits = t.0; many = t.1; below = t.2 }
+      let w = and_parts (are_leaves children) (are_leaves others) v in let t = taken_node children others ns h (taken children ns w.0) (taken others (after children ns) w.1) in record { splits = t.0; many = t.1; below = t.2 }
   taken (tree (at k i j) children others) ns v h =
-      let w = both (are_leaves children) (are_leaves others) v in let t = taken_node children others ns h (taken children ns w.0) (taken others (after children ns) w.1) in record { splits = t.0; many = t.1; below = t.2 }
+      let w = and_parts (are_leaves children) (are_leaves others) v in let t = taken_node children others ns h (taken children ns w.0) (taken others (after children ns) w.1) in record { splits = t.0; many = t.1; below = t.2 }
   taken (tree (text y) children others) ns v h =
-      let w = both (are_leaves children) (are_leaves others) v in let t = taken_node children others ns h (taken children ns w.0) (taken others (after children ns) w.1) in record { splits = t.0; many = t.1; below = t.2 }
+      let w = and_parts (are_leaves children) (are_leaves others) v in let t = taken_node children others ns h (taken children ns w.0) (taken others (after children ns) w.1) in record { splits = t.0; many = t.1; below = t.2 }
   taken (tree (texts y) children others) ns v h =
-      let w = both (are_leaves children) (are_leaves others) v in let t = taken_node children others ns h (taken children ns w.0) (taken others (after children ns) w.1) in record { splits = t.0; many = t.1; below = t.2 }
+      let w = and_parts (are_leaves children) (are_leaves others) v in let t = taken_node children others ns h (taken children ns w.0) (taken others (after children ns) w.1) in record { splits = t.0; many = t.1; below = t.2 }
   taken (tree (truth y) children others) ns v h =
-      let w = both (are_leaves children) (are_leaves others) v in let t = taken_node children others ns h (taken children ns w.0) (taken others (after children ns) w.1) in record { splits = t.0; many = t.1; below = t.2 }
+      let w = and_parts (are_leaves children) (are_leaves others) v in let t = taken_node children others ns h (taken children ns w.0) (taken others (after children ns) w.1) in record { splits = t.0; many = t.1; below = t.2 }
   taken (tree (unary y) children others) ns v h =
-      let w = both (are_leaves children) (are_leaves others) v in let t = taken_node children others ns h (taken children ns w.0) (taken others (after children ns) w.1) in record { splits = t.0; many = t.1; below = t.2 }
+      let w = and_parts (are_leaves children) (are_leaves others) v in let t = taken_node children others ns h (taken children ns w.0) (taken others (after children ns) w.1) in record { splits = t.0; many = t.1; below = t.2 }
   taken (tree (binary y) children others) ns v h =
-      let w = both (are_leaves children) (are_leaves others) v in let t = taken_node children others ns h (taken children ns w.0) (taken others (after children ns) w.1) in record { splits = t.0; many = t.1; below = t.2 }
+      let w = and_parts (are_leaves children) (are_leaves others) v in let t = taken_node children others ns h (taken children ns w.0) (taken others (after children ns) w.1) in record { splits = t.0; many = t.1; below = t.2 }
   taken (tree (assignment y) children others) ns v h =
-      let w = both (are_leaves children) (are_leaves others) v in let t = taken_node children others ns h (taken children ns w.0) (taken others (after children ns) w.1) in record { splits = t.0; many = t.1; below = t.2 }
+      let w = and_parts (are_leaves children) (are_leaves others) v in let t = taken_node children others ns h (taken children ns w.0) (taken others (after children ns) w.1) in record { splits = t.0; many = t.1; below = t.2 }
   taken (tree (space y) children others) ns v h =
-      let w = both (are_leaves children) (are_leaves others) v in let t = taken_node children others ns h (taken children ns w.0) (taken others (after children ns) w.1) in record { splits = t.0; many = t.1; below = t.2 }
+      let w = and_parts (are_leaves children) (are_leaves others) v in let t = taken_node children others ns h (taken children ns w.0) (taken others (after children ns) w.1) in record { splits = t.0; many = t.1; below = t.2 }
   taken (tree (access y) children others) ns v h =
-      let w = both (are_leaves children) (are_leaves others) v in let t = taken_node children others ns h (taken children ns w.0) (taken others (after children ns) w.1) in record { splits = t.0; many = t.1; below = t.2 }
+      let w = and_parts (are_leaves children) (are_leaves others) v in let t = taken_node children others ns h (taken children ns w.0) (taken others (after children ns) w.1) in record { splits = t.0; many = t.1; below = t.2 }
   taken (tree (path y) children others) ns v h =
-      let w = both (are_leaves children) (are_leaves others) v in let t = taken_node children others ns h (taken children ns w.0) (taken others (after children ns) w.1) in record { splits = t.0; many = t.1; below = t.2 }
+      let w = and_parts (are_leaves children) (are_leaves others) v in let t = taken_node children others ns h (taken children ns w.0) (taken others (after children ns) w.1) in record { splits = t.0; many = t.1; below = t.2 }
 
 no_numbers : (ns : List ℕ) → length ns ≡ 0 → ns ≡ []
 no_numbers [] h = refl
@@ -111,27 +108,27 @@ module _ {X : Type 0} (g h : ℕ → X) where
       (ap (λ y. tree (ident r y) end (respell_forest g (renumbered others ns))) named ∙ ap (λ y. tree (ident r (h x)) end y) t.0, t.1)
   respelled (tree (ident r x) (tree l children beside) others) ns more v e = absurd (let y : ⊥ = cc in y)
   respelled (tree (kind k) children others) ns more v e =
-      let w = both (are_leaves children) (are_leaves others) v in respelled_node (kind k) (kind k) children others ns more e (λ rest. respelled children ns rest w.0) (respelled others (after children ns) more w.1)
+      let w = and_parts (are_leaves children) (are_leaves others) v in respelled_node (kind k) (kind k) children others ns more e (λ rest. respelled children ns rest w.0) (respelled others (after children ns) more w.1)
   respelled (tree (at k i j) children others) ns more v e =
-      let w = both (are_leaves children) (are_leaves others) v in respelled_node (at k i j) (at k 0 0) children others ns more e (λ rest. respelled children ns rest w.0) (respelled others (after children ns) more w.1)
+      let w = and_parts (are_leaves children) (are_leaves others) v in respelled_node (at k i j) (at k 0 0) children others ns more e (λ rest. respelled children ns rest w.0) (respelled others (after children ns) more w.1)
   respelled (tree (text y) children others) ns more v e =
-      let w = both (are_leaves children) (are_leaves others) v in respelled_node (text y) (text y) children others ns more e (λ rest. respelled children ns rest w.0) (respelled others (after children ns) more w.1)
+      let w = and_parts (are_leaves children) (are_leaves others) v in respelled_node (text y) (text y) children others ns more e (λ rest. respelled children ns rest w.0) (respelled others (after children ns) more w.1)
   respelled (tree (texts y) children others) ns more v e =
-      let w = both (are_leaves children) (are_leaves others) v in respelled_node (texts y) (texts y) children others ns more e (λ rest. respelled children ns rest w.0) (respelled others (after children ns) more w.1)
+      let w = and_parts (are_leaves children) (are_leaves others) v in respelled_node (texts y) (texts y) children others ns more e (λ rest. respelled children ns rest w.0) (respelled others (after children ns) more w.1)
   respelled (tree (truth y) children others) ns more v e =
-      let w = both (are_leaves children) (are_leaves others) v in respelled_node (truth y) (truth y) children others ns more e (λ rest. respelled children ns rest w.0) (respelled others (after children ns) more w.1)
+      let w = and_parts (are_leaves children) (are_leaves others) v in respelled_node (truth y) (truth y) children others ns more e (λ rest. respelled children ns rest w.0) (respelled others (after children ns) more w.1)
   respelled (tree (unary y) children others) ns more v e =
-      let w = both (are_leaves children) (are_leaves others) v in respelled_node (unary y) (unary y) children others ns more e (λ rest. respelled children ns rest w.0) (respelled others (after children ns) more w.1)
+      let w = and_parts (are_leaves children) (are_leaves others) v in respelled_node (unary y) (unary y) children others ns more e (λ rest. respelled children ns rest w.0) (respelled others (after children ns) more w.1)
   respelled (tree (binary y) children others) ns more v e =
-      let w = both (are_leaves children) (are_leaves others) v in respelled_node (binary y) (binary y) children others ns more e (λ rest. respelled children ns rest w.0) (respelled others (after children ns) more w.1)
+      let w = and_parts (are_leaves children) (are_leaves others) v in respelled_node (binary y) (binary y) children others ns more e (λ rest. respelled children ns rest w.0) (respelled others (after children ns) more w.1)
   respelled (tree (assignment y) children others) ns more v e =
-      let w = both (are_leaves children) (are_leaves others) v in respelled_node (assignment y) (assignment y) children others ns more e (λ rest. respelled children ns rest w.0) (respelled others (after children ns) more w.1)
+      let w = and_parts (are_leaves children) (are_leaves others) v in respelled_node (assignment y) (assignment y) children others ns more e (λ rest. respelled children ns rest w.0) (respelled others (after children ns) more w.1)
   respelled (tree (space y) children others) ns more v e =
-      let w = both (are_leaves children) (are_leaves others) v in respelled_node (space y) (space y) children others ns more e (λ rest. respelled children ns rest w.0) (respelled others (after children ns) more w.1)
+      let w = and_parts (are_leaves children) (are_leaves others) v in respelled_node (space y) (space y) children others ns more e (λ rest. respelled children ns rest w.0) (respelled others (after children ns) more w.1)
   respelled (tree (access y) children others) ns more v e =
-      let w = both (are_leaves children) (are_leaves others) v in respelled_node (access y) (access y) children others ns more e (λ rest. respelled children ns rest w.0) (respelled others (after children ns) more w.1)
+      let w = and_parts (are_leaves children) (are_leaves others) v in respelled_node (access y) (access y) children others ns more e (λ rest. respelled children ns rest w.0) (respelled others (after children ns) more w.1)
   respelled (tree (path y) children others) ns more v e =
-      let w = both (are_leaves children) (are_leaves others) v in respelled_node (path y) (path y) children others ns more e (λ rest. respelled children ns rest w.0) (respelled others (after children ns) more w.1)
+      let w = and_parts (are_leaves children) (are_leaves others) v in respelled_node (path y) (path y) children others ns more e (λ rest. respelled children ns rest w.0) (respelled others (after children ns) more w.1)
 
 no_names : {X : Type 0} (xs : List X) → xs ++ [] ≡ xs
 no_names [] = refl

@@ -29,6 +29,7 @@ use Rattle.wesl_scope_clash.proofs.Walked.{AreAlike, differs, is_there, Stands, 
 use Rattle.wesl_scope_clash.proofs.Along.{Lasts, lasts, any_there, Fits, Gathers, gathered, any_met, bound_gathers, declares_gathers, there_gathers, differs_gathers, occurrences_sketch}
 use Rattle.wesl_scope_clash.proofs.References.{shape, shape_lasts, reads_of, Beside, Judges, judges, judged_one, outside_one}
 use Rattle.wesl_scope_clash.proofs.Directed.{Directed, all_directed, all_named}
+use Rattle.std.proofs.lemmas.Bool.{and_from, or_left, or_right}
 
 -- ---- truth
 pub same_truth : (a b : Bool) → (a ≡ true → b ≡ true) → (b ≡ true → a ≡ true) → a ≡ b
@@ -44,16 +45,6 @@ and_second : (a b : Bool) → (a && b) ≡ true → b ≡ true
 and_second true b h = h
 and_second false b h = absurd (let z : ⊥ = cc in z)
 
-and_both : (a b : Bool) → a ≡ true → b ≡ true → (a && b) ≡ true
-and_both a b e f = rw (e, f) refl
-
-or_first : (a b : Bool) → a ≡ true → (a || b) ≡ true
-or_first a b e = rw e refl
-
-or_second : (a b : Bool) → b ≡ true → (a || b) ≡ true
-or_second true b e = refl
-or_second false b e = e
-
 module _ {X : Type 0} (p : X → Bool) where
   all_each : (xs : List X) → list_all p xs ≡ true → Every (λ x. p x ≡ true) xs
   all_each [] h = tt
@@ -61,7 +52,7 @@ module _ {X : Type 0} (p : X → Bool) where
 
   each_all : (xs : List X) → Every (λ x. p x ≡ true) xs → list_all p xs ≡ true
   each_all [] h = refl
-  each_all (x ∷ xs) h = and_both (p x) (list_all p xs) h.0 (each_all xs h.1)
+  each_all (x ∷ xs) h = and_from (p x) (list_all p xs) h.0 (each_all xs h.1)
 
   -- what holds wherever one passes
   any_with : (q : Bool) (xs : List X) → Every (λ x. p x ≡ true → q ≡ true) xs → list_any p xs ≡ true → q ≡ true
@@ -80,8 +71,8 @@ every_both P Q (x ∷ xs) h k = ((h.0, k.0), every_both P Q xs h.1 k.1)
 each_any : {X Y : Type 0} (p : Y → X → Bool) (xs : List X) → Every (λ x. (y : Y) → p y x ≡ true → list_any (p y) xs ≡ true) xs
 each_any p [] = tt
 each_any p (x ∷ xs) = (
-  λ y e. or_first (p y x) (list_any (p y) xs) e,
-  every_so (λ z. (y : _) → p y z ≡ true → list_any (p y) xs ≡ true) (λ z. (y : _) → p y z ≡ true → (p y x || list_any (p y) xs) ≡ true) (λ z h y e. or_second (p y x) (list_any (p y) xs) (h y e)) xs (each_any p xs),
+  λ y e. or_left (p y x) (list_any (p y) xs) e,
+  every_so (λ z. (y : _) → p y z ≡ true → list_any (p y) xs ≡ true) (λ z. (y : _) → p y z ≡ true → (p y x || list_any (p y) xs) ≡ true) (λ z h y e. or_right (p y x) (list_any (p y) xs) (h y e)) xs (each_any p xs),
 )
 
 below_each : (n : ℕ) (p : ℕ → Bool) → all_below n p ≡ true → (m : ℕ) → m < n → p m ≡ true
@@ -96,7 +87,7 @@ below_each (suc n) p h m l = at (m == n) (Decides-eqb m n).0 refl (below_each n 
 
 each_below : (n : ℕ) (p : ℕ → Bool) → ((m : ℕ) → m < n → p m ≡ true) → all_below n p ≡ true
 each_below zero p h = refl
-each_below (suc n) p h = and_both (all_below n p) (p n) (each_below n p (λ m l. h m (omega (arith, l)))) (h n (omega arith))
+each_below (suc n) p h = and_from (all_below n p) (p n) (each_below n p (λ m l. h m (omega (arith, l)))) (h n (omega arith))
 
 agrees : (o : Option Agreed) (b : Bool) (m : ℕ) → agree_or o b m ≡ (if is_there o then not (differs o m) else b)
 agrees None b m = refl
@@ -283,7 +274,7 @@ module _ (names : List Text) (alike : List ℕ) (wide : ℕ) (spells : AreAlike 
         from : all_read_right names all ≡ true → (done.right && all_below n (outside_at alike done)) ≡ true
         from h =
             let rights : Every (λ o. (reads_right names all o ≡ true) × (reads_right names all o ≡ right_one o)) all = every_both _ _ all (all_each (reads_right names all) all h) all_right in
-            and_both done.right (all_below n (outside_at alike done))
+            and_from done.right (all_below n (outside_at alike done))
             (judges_all.rights
             ∙ each_all judge all
             (every_so _ (λ o. judge o ≡ true) (λ o k. judged_of_right (is_unqualified o.role) (look all (alike_to names o.name) o) (look all (other_than names o.name) o) o.name (sym k.1 ∙ k.0)) all rights))
@@ -329,8 +320,8 @@ module _ (names : List Text) (alike : List ℕ) (wide : ℕ) (spells : AreAlike 
                 → (if g then not (list_any (declares_so (other_than names o.name)) all) else true) ≡ true
             by o false e k f = refl
             by o true e k f =
-                let a : list_any (declares_so (λ i. i == o.name)) all ≡ true = k (λ i. i == o.name) (and_both (is_module_name o.role) (o.name == o.name) e (equal o.name)) in
-                let b : list_any (declares_so (alike_to names o.name)) all ≡ true = k (alike_to names o.name) (and_both (is_module_name o.role) (alike_to names o.name o.name) e (own_name o.name)) in
+                let a : list_any (declares_so (λ i. i == o.name)) all ≡ true = k (λ i. i == o.name) (and_from (is_module_name o.role) (o.name == o.name) e (equal o.name)) in
+                let b : list_any (declares_so (alike_to names o.name)) all ≡ true = k (alike_to names o.name) (and_from (is_module_name o.role) (alike_to names o.name o.name) e (own_name o.name)) in
                 sym (ap₂ (λ x y. if x then (if y then not (list_any (declares_so (other_than names o.name)) all) else true) else true) a b) ∙ f
 
         from : are_apart names all ≡ true → all_below n (apart_at alike done) ≡ true

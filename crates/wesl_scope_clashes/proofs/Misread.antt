@@ -28,15 +28,12 @@ use Rattle.wesl_scope_clashes.specs.declared.clash.Clash.{Clash}
 use Rattle.wesl_scope_clashes.specs.Clashes.{clash_view, binder_at, has_other, read_among, is_rival, clash_at, clashes}
 use Rattle.wesl_scope_clashes.specs.Sightings.{differs, is_seen, is_declared, first_met}
 use Rattle.wesl_scope_clashes.specs.ByMeaning.{read_by, clash_by, clashes_by}
+use mathlib.Core.Bool.{and-false}
 
 -- ---- tests
 both_true : (a b c : Bool) → (a && (b && c)) ≡ ((a && b) && c)
 both_true true b c = refl
 both_true false b c = refl
-
-no_more : (a : Bool) → (a && false) ≡ false
-no_more true = refl
-no_more false = refl
 
 -- a binder of a block, by its key
 keyed : (t v x y : Bool) → t ≡ (x && y) → (t && v) ≡ (v && (y && x))
@@ -44,7 +41,7 @@ keyed t true true true e = ap (λ s. s && true) e
 keyed t true true false e = ap (λ s. s && true) e
 keyed t true false true e = ap (λ s. s && true) e
 keyed t true false false e = ap (λ s. s && true) e
-keyed t false x y e = no_more t
+keyed t false x y e = and-false t
 
 declared_so : (t b z w y v : Bool) → z ≡ w → (b ≡ true → t ≡ (w && y)) → (t && ((b && z) && v)) ≡ (((b && w) && y) && v)
 declared_so t true z w y v e f = ap₂ (λ s q. s && (q && v)) (f refl) e ∙ at w y v
@@ -53,7 +50,7 @@ declared_so t true z w y v e f = ap₂ (λ s q. s && (q && v)) (f refl) e ∙ at
     at true true c = refl
     at true false c = refl
     at false b c = refl
-declared_so t false z w y v e f = no_more t
+declared_so t false z w y v e f = and-false t
 
 -- ---- searches
 find_same : {X : Type 0} (p q : X → Bool) → ((x : X) → p x ≡ q x) → (xs : List X) → find p xs ≡ find q xs
@@ -135,15 +132,15 @@ module _ (names : List Text) (w : ℕ → Block) where
     seen_so o module_name t b n p e = keyed t true (bytes_eq (w o.block) b) (bytes_eq (name_in names o.name) n) e
     seen_so o parameter t b n p e = keyed t true (bytes_eq (w o.block) b) (bytes_eq (name_in names o.name) n) e
     seen_so o (local end) t b n p e = keyed t (nat_le end p) (bytes_eq (w o.block) b) (bytes_eq (name_in names o.name) n) e
-    seen_so o (reference by) t b n p e = no_more t
-    seen_so o word t b n p e = no_more t
+    seen_so o (reference by) t b n p e = and-false t
+    seen_so o word t b n p e = and-false t
 
     unseen_so : (o : Found) (r : Standing) (t : Bool) (n : Text) (p : ℕ) → t ≡ same_key (key_as whole (named names (told w o)) r) (free n) → (t && is_visible p r) ≡ false
     unseen_so o module_name t n p e = ap (λ s. s && true) e
     unseen_so o parameter t n p e = ap (λ s. s && true) e
     unseen_so o (local end) t n p e = ap (λ s. s && nat_le end p) e
-    unseen_so o (reference by) t n p e = no_more t
-    unseen_so o word t n p e = no_more t
+    unseen_so o (reference by) t n p e = and-false t
+    unseen_so o word t n p e = and-false t
 
     seen_by : (k p : ℕ) (x : Option ℕ) (n : Text) (b : Block) → Means k (meaning n (binder_of whole n p b)) → Picked names (told_all os) n p b
         → first_met is_seen ns os k p x ≡ option_map binder_at (find (λ o. differs x o.name) (binders_of names (told_all os) n p b))

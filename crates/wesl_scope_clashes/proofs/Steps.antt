@@ -15,6 +15,7 @@ use Rattle.wesl_scope_clashes.specs.declared.sightings.Sighting.{Sighting}
 use Rattle.wesl_scope_clashes.specs.Clashes.{ClashOf, binder_at}
 use Rattle.wesl_scope_clashes.specs.Sightings.{differs, is_met, first_of, Groups, groups_view, first_in, if_met, is_seen, in_module, is_declared, one_met, first_met}
 use Rattle.wesl_scope_clashes.specs.ByMeaning.{Look, reading_by, clash_by, clashes_by}
+use Rattle.std.proofs.lemmas.Bool.{and_from, and_parts}
 
 -- ---- the first of several binders
 or_none : {X : Type 0} (o : Option X) → option_or o None ≡ o
@@ -85,14 +86,6 @@ le_through a b c e f = by (leb_tells a b) (leb_tells b c) (leb_tells a c)
     by (inr x) y (inr z) = let p : leb a b ≡ false = x.0 in let q : leb a b ≡ true = e in absurd (let w : ⊥ = cc in w)
     by (inl x) (inr y) (inr z) = let p : leb b c ≡ false = y.0 in let q : leb b c ≡ true = f in absurd (let w : ⊥ = cc in w)
 
-both_are : (a b : Bool) → (a && b) ≡ true → (a ≡ true) × (b ≡ true)
-both_are true b e = (refl, e)
-both_are false b e = cc
-
-are_both : (a b : Bool) → a ≡ true → b ≡ true → (a && b) ≡ true
-are_both true b e f = f
-are_both false b e f = cc
-
 unmapped : {X Y : Type 0} (f : X → Y) (o : Option X) (y : Y) → option_map f o ≡ Some y → (x : X) × ((o ≡ Some x) × (f x ≡ y))
 unmapped f None y e = absurd (let z : ⊥ = cc in z)
 unmapped f (Some x) y e = (x, (refl, let z : f x ≡ y = cc in z))
@@ -103,11 +96,11 @@ other_again a b m e f = ap (λ n. not (n == m)) e ∙ f
 module _ (before : List Sighting) (next : Sighting) where
   -- a binder before it that is there as soon as it is, and is not excepted
   stands_for : (p q : ℕ) (x y : Option ℕ) (s : Sighting) → find (is_met q y) before ≡ Some s → nat_le s.from p ≡ true → differs x s.binder.ident.0 ≡ true → Found_some (find (is_met p x) before)
-  stands_for p q x y s e f g = passes_too (is_met q y) (is_met p x) before s e (are_both (nat_le s.from p) (differs x s.binder.ident.0) f g)
+  stands_for p q x y s e f g = passes_too (is_met q y) (is_met p x) before s e (and_from (nat_le s.from p) (differs x s.binder.ident.0) f g)
 
   module _ (s : Sighting) (first_is : find (is_met next.from None) before ≡ Some s) (p : ℕ) (later : nat_le next.from p ≡ true) where
     there : nat_le s.from p ≡ true
-    there = le_through s.from next.from p (both_are (nat_le s.from next.from) true (found_met (is_met next.from None) before s first_is)).0 later
+    there = le_through s.from next.from p (and_parts (nat_le s.from next.from) true (found_met (is_met next.from None) before s first_is)).0 later
 
     covered : (x : Option ℕ) → differs x next.binder.ident.0 ≡ true
         → (s.binder.ident.0 ≡ next.binder.ident.0) ⊎ ((t : Sighting) × (find (is_met next.from (Some s.binder.ident.0)) before ≡ Some t))
@@ -119,7 +112,7 @@ module _ (before : List Sighting) (next : Sighting) where
         by : (b : Bool) → (s.binder.ident.0 == m) ≡ b → ((s.binder.ident.0 == m) ≡ true → s.binder.ident.0 ≡ m) × (s.binder.ident.0 ≡ m → (s.binder.ident.0 == m) ≡ true) → Found_some (find (is_met p (Some m)) before)
         by false f k = stands_for p next.from (Some m) None s first_is there (ap not f)
         by true f k =
-            let met = both_are (nat_le t.from next.from) (not (t.binder.ident.0 == s.binder.ident.0)) (found_met (is_met next.from (Some s.binder.ident.0)) before t e) in
+            let met = and_parts (nat_le t.from next.from) (not (t.binder.ident.0 == s.binder.ident.0)) (found_met (is_met next.from (Some s.binder.ident.0)) before t e) in
             stands_for p next.from (Some m) (Some s.binder.ident.0) t e (le_through t.from next.from p met.0 later) (subst (λ n. not (t.binder.ident.0 == n) ≡ true) (k.0 f) met.1)
 
   pub never_first : (b : Binder) → first_of next.from None before ≡ Some b

@@ -1,5 +1,5 @@
 -- Each identifier of a tree has a name in the table.
-use Rattle.std.proofs.Common.{◌≡◌, ℕ, zero, suc, ◌+◌, ◌<◌, true, false, Bool, ◌&&◌, List, [], ◌∷◌, map, arith, refl}
+use Rattle.std.proofs.Common.{◌≡◌, ℕ, zero, suc, ◌+◌, ◌<◌, true, false, ◌&&◌, List, [], ◌∷◌, map, arith, refl}
 use Rattle.std.specs.Prelude.{nat_lt, None}
 use Rattle.std.specs.List.{All}
 use Rattle.std.proofs.lemmas.Bool.Decides.{nat_tests}
@@ -10,10 +10,7 @@ use Rattle.wesl_scope_occurrences.specs.Ways.{told}
 use Rattle.wesl_scope_occurrences.specs.Views.{occurrence_view}
 use Rattle.wesl_scope_occurrences.specs.declared.occurrence.Occurrence as found
 use Rattle.wesl_scope_occurrences.proofs.Joined.{Each, Each-append}
-
-both : (a b : Bool) → (a && b) ≡ true → (a ≡ true) × (b ≡ true)
-both true b h = (refl, h)
-both false b h = cc
+use Rattle.std.proofs.lemmas.Bool.{and_parts}
 
 less : (i n : ℕ) → nat_lt i n ≡ true → i < n
 less i n h = grind (arith, nat_tests)
@@ -23,14 +20,14 @@ NameBelow n o = o.name < n
 
 below_parts : (n : ℕ) (l : Label) (children others : Forest) → forest_below n (tree l children others) ≡ true → (forest_below n children ≡ true) × (forest_below n others ≡ true)
 below_parts n l children others h =
-    let a = both (label_below n l && forest_below n children) (forest_below n others) h in
-    ((both (label_below n l) (forest_below n children) a.0).1, a.1)
+    let a = and_parts (label_below n l && forest_below n children) (forest_below n others) h in
+    ((and_parts (label_below n l) (forest_below n children) a.0).1, a.1)
 
 pub names_below : (n : ℕ) (f : Forest) (node : Node Block) (p q : ℕ) → forest_below n f ≡ true → Each (NameBelow n) (occurrences_from node p q f)
 names_below n end node p q h = tt
 names_below n (tree (ident r x) children others) node p q h =
-    let a = both (label_below n (ident r x) && forest_below n children) (forest_below n others) h in
-    (less x n (both (label_below n (ident r x)) (forest_below n children) a.0).0, names_below n others (after_field node) (suc p) q a.1)
+    let a = and_parts (label_below n (ident r x) && forest_below n children) (forest_below n others) h in
+    (less x n (and_parts (label_below n (ident r x)) (forest_below n children) a.0).0, names_below n others (after_field node) (suc p) q a.1)
 names_below n (tree (kind k) children others) node p q h =
     let a = below_parts n (kind k) children others h in
     let inner = node_by (shape_of k) children (blocks_at q (here_in node).block) (here_in node) in

@@ -7,11 +7,12 @@ use Rattle.wesl_tree_syntax.specs.Tree.{LabelOf, ForestOf, end, tree, kind, iden
 use Rattle.wesl_scope_occurrences.specs.Occurrences.{Block, Standing, module_name, parameter, local, reference, word, of_parameter, globally, node_by, after_field, opens as opens_in, blocks_at, count, blocks_in, occurrences_from}
 use Rattle.wesl_scope_occurrences.specs.Events.{EventOf, meets, of_none, after_level, events_from}
 use Rattle.wesl_scope_open.specs.Open.{Readings, with_visible, after}
-use Rattle.wesl_scope_open.proofs.Runs.{Every, every_append, every_so, append_end, map_append, Found, shows, sights, sight_at, ReadWithin, AllWithin, within_append, shows_append, or_none, apart, and_none}
+use Rattle.wesl_scope_open.proofs.Runs.{Every, every_append, every_so, append_end, map_append, Found, shows, sights, sight_at, ReadWithin, AllWithin, within_append, shows_append, apart}
 use Rattle.wesl_scope_open.proofs.Good.{holding, Outside, after_append, sights_append}
 use Rattle.wesl_scope_open.proofs.Still.{by_numbers, IsCalm, StillIn, calm_shows}
 use Rattle.wesl_scope_open.proofs.Forests.{shape_in, level_by, count_unfolds, occurrences_unfold, events_unfold, calm_tree, no_ident_there, simple_node, simple_level, anything, reads_any, calm_tree_still_in}
 use Rattle.wesl_scope_open.proofs.Lively.{stand, round_in, tree_events, tree_found}
+use mathlib.Core.Bool.{and-false, or-false}
 
 -- a module name stands in the module's block, a parameter in block m alone
 abbrev pub HeadedAs : ℕ → Standing → Block → Type 0
@@ -109,7 +110,7 @@ header_parameter m p x d w u = record {
     and_true false = refl
 
     seen : (n : Text) → ((bytes_eq x n && bytes_eq (m ∷ []) (m ∷ [])) || false) ≡ bytes_eq x n
-    seen n = or_none (bytes_eq x n && bytes_eq (m ∷ []) (m ∷ [])) ∙ (ap (λ t. bytes_eq x n && t) ((bytes_eq-Decides (m ∷ []) (m ∷ [])).1 refl) ∙ and_true (bytes_eq x n))
+    seen n = or-false (bytes_eq x n && bytes_eq (m ∷ []) (m ∷ [])) ∙ (ap (λ t. bytes_eq x n && t) ((bytes_eq-Decides (m ∷ []) (m ∷ [])).1 refl) ∙ and_true (bytes_eq x n))
 
 pub header_name : (m p : ℕ) (x : Text) (h : Block) (d : Option ℕ) (w u : Bool) → Header m p (suc p) (meets (by_numbers (round_in [] false h d w u)) module_name x ∷ []) (found_in module_name x p [] d u ∷ [])
 header_name m p x h d w u = record {
@@ -119,7 +120,7 @@ header_name m p x h d w u = record {
   within = λ v outer k. (tt, tt);
   left = λ v. v;
   state = λ v outer. refl;
-  reads = λ v n y. sym (ap (λ t. if t then Some m else v n) (or_none (bytes_eq x n && bytes_eq [] (m ∷ [])) ∙ (ap (λ t. bytes_eq x n && t) (apart [] (m ∷ []) (λ e. let z : ⊥ = cc in z)) ∙ and_none (bytes_eq x n))));
+  reads = λ v n y. sym (ap (λ t. if t then Some m else v n) (or-false (bytes_eq x n && bytes_eq [] (m ∷ [])) ∙ (ap (λ t. bytes_eq x n && t) (apart [] (m ∷ []) (λ e. let z : ⊥ = cc in z)) ∙ and-false (bytes_eq x n))));
 }
 
 -- ---- parameters

@@ -6,7 +6,8 @@ use Rattle.wesl_scope_occurrences.specs.Occurrences.{Block, Standing, module_nam
 use Rattle.wesl_scope_occurrences.specs.Events.{EventOf}
 use Rattle.wesl_scope_open.specs.Scopes.{is_visible, binds}
 use Rattle.wesl_scope_open.specs.Open.{Readings, Open, stepped, after, number_of}
-use Rattle.wesl_scope_open.proofs.Runs.{Every, every_append, every_so, append_again, map_append, Found, shows, first_in, sight, sights, sight_at, AllWithin, within_append, none_shows, same_shows, shows_append, or_again, or_none, not_le, is_le, elsewhere}
+use Rattle.wesl_scope_open.proofs.Runs.{Every, every_append, every_so, append_again, map_append, Found, shows, first_in, sight, sights, sight_at, AllWithin, within_append, none_shows, same_shows, shows_append, or_again, not_le, is_le, elsewhere}
+use mathlib.Core.Bool.{or-false}
 
 -- ---- where local names are declared: between places p and p', in block b or in those that open there
 abbrev pub PlacedAs : Block → ℕ → ℕ → ℕ → ℕ → Standing → Block → Type 0
@@ -167,7 +168,7 @@ module _ (all os us : List Found) (lo : ℕ) (b : Block) (p p1 p2 q q1 q2 : ℕ)
   pub early : (w : Block) (n : Text) (x : ℕ) → p ≤ x → x ≤ p1 → lo ≤ number_of w → number_of w < q2 → shows all w n x ≡ (shows all w n p || shows os w n x)
   early w n x h i j k =
       together w n x h (omega (arith, i, pm)) j k
-      ∙ ap (λ t. shows all w n p || t) (ap (λ t. shows os w n x || t) (hidden d p1 p2 e e' us second w n x i) ∙ or_none (shows os w n x))
+      ∙ ap (λ t. shows all w n p || t) (ap (λ t. shows os w n x || t) (hidden d p1 p2 e e' us second w n x i) ∙ or-false (shows os w n x))
 
   pub among_first : Among all os lo p p1 q q1
   among_first = record {

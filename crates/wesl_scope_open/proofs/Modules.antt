@@ -7,10 +7,11 @@ use Rattle.wesl_scope_occurrences.specs.Occurrences.{Block, Standing, module_nam
 use Rattle.wesl_scope_occurrences.specs.Events.{EventOf, opens, closes}
 use Rattle.wesl_scope_open.specs.Scopes.{is_visible, binds}
 use Rattle.wesl_scope_open.specs.Open.{Readings, after, number_of, is_declared_by}
-use Rattle.wesl_scope_open.proofs.Runs.{Every, every_append, every_so, append_end, map_append, Found, shows, sights, sight_at, AllWithin, within_append, none_shows, same_shows, shows_append, or_none, apart, elsewhere}
+use Rattle.wesl_scope_open.proofs.Runs.{Every, every_append, every_so, append_end, map_append, Found, shows, sights, sight_at, AllWithin, within_append, none_shows, same_shows, shows_append, apart, elsewhere}
 use Rattle.wesl_scope_open.proofs.Good.{Placed, PlacedAs, hidden, Among, Knows, holding, Outside, Ran, Good, after_append, sights_append}
 use Rattle.wesl_scope_open.proofs.Still.{IsCalm, StillIn}
 use Rattle.wesl_scope_open.proofs.Functions.{Headed, HeadedAs, Header}
+use mathlib.Core.Bool.{or-false}
 
 -- names of the module stand in its block, and others in blocks that open here
 abbrev pub ApartAs : ℕ → ℕ → Standing → Block → Type 0
@@ -80,7 +81,7 @@ outer_then p p1 p2 q q1 q2 es fs os us some g h =
           (every_so (Apart q q1) (Apart q q2) (λ o a. wider_apart q q1 q q2 (omega arith) qm o.block o.role a) os g.apart)
           (every_so (Apart q1 q2) (Apart q q2) (λ o a. wider_apart q1 q2 q q2 ql (omega arith) o.block o.role a) us h.apart);
       runs = λ all known out own v outer no.
-          let (gk, gs, gw) = g.runs all known out (λ b n x i j. own b n x i (omega (arith, j, qm)) ∙ (shows_append os us b n x ∙ (ap (λ t. shows os b n x || t) (early q1 q2 b n x j (omega (arith, some, i)) us h.apart) ∙ or_none (shows os b n x)))) v outer no in
+          let (gk, gs, gw) = g.runs all known out (λ b n x i j. own b n x i (omega (arith, j, qm)) ∙ (shows_append os us b n x ∙ (ap (λ t. shows os b n x || t) (early q1 q2 b n x j (omega (arith, some, i)) us h.apart) ∙ or-false (shows os b n x)))) v outer no in
           let (hk, hs, hw) = h.runs all known out (λ b n x i j. own b n x (omega (arith, i, ql)) j ∙ (shows_append os us b n x ∙ ap (λ t. t || shows us b n x) (late q q1 b n x i (omega (arith, some, ql, i)) os g.apart))) v outer no in (
             λ n. sights_append n known (holding v outer) es fs ∙ (ap₂ (λ a t. a ++ sights n known t fs) (gk n) gs ∙ (ap (λ a. map (sight_at n all) os ++ a) (hk n) ∙ sym (map_append (sight_at n all) os us))),
             after_append (holding v outer) es fs ∙ (ap (λ y. after y fs) gs ∙ hs),
@@ -153,7 +154,7 @@ module _ (p p1 p' q q' : ℕ) (some : 1 ≤ q) (es fs : List (EventOf Text)) (os
     parts w n x i j = own w n x i j ∙ shows_append os us w n x
 
     at_start : (w : Block) (n : Text) → q ≤ number_of w → number_of w < q' → shows all w n p1 ≡ shows os w n p1
-    at_start w n i j = parts w n p1 i j ∙ (ap (λ t. shows os w n p1 || t) (hidden (q ∷ []) p1 p' (suc q) q' us body.placed w n p1 (omega arith)) ∙ or_none (shows os w n p1))
+    at_start w n i j = parts w n p1 i j ∙ (ap (λ t. shows os w n p1 || t) (hidden (q ∷ []) p1 p' (suc q) q' us body.placed w n p1 (omega arith)) ∙ or-false (shows os w n p1))
 
     among : Among all us q p1 p' (suc q) q'
     among = record {

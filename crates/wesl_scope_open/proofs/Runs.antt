@@ -11,6 +11,7 @@ use Rattle.wesl_scope_occurrences.specs.Walk.{Here}
 use Rattle.wesl_scope_occurrences.specs.Events.{EventOf, meets, ends}
 use Rattle.wesl_scope_open.specs.Scopes.{Key, is_visible, binds, binder_of, meaning, key_of}
 use Rattle.wesl_scope_open.specs.Open.{Readings, Open, stepped, after, of_block, or_module, read_in, key_met, number_of, by_number}
+use mathlib.Core.Bool.{and-false}
 
 abbrev pub Every : {X : Type 0} → (X → Type 0) → List X → Type 0
 Every P [] = Unit {0}
@@ -111,14 +112,6 @@ pub or_again : (a b c : Bool) → ((a || b) || c) ≡ (a || (b || c))
 or_again true b c = refl
 or_again false b c = refl
 
-pub or_none : (a : Bool) → (a || false) ≡ a
-or_none true = refl
-or_none false = refl
-
-pub and_none : (a : Bool) → (a && false) ≡ false
-and_none true = refl
-and_none false = refl
-
 pub shows_append : (os us : List Found) (w : Block) (n : Text) (x : ℕ) → shows (os ++ us) w n x ≡ (shows os w n x || shows us w n x)
 shows_append [] us w n x = refl
 shows_append (o ∷ os) us w n x = ap (λ b. binds w n x o || b) (shows_append os us w n x) ∙ sym (or_again (binds w n x o) (shows os w n x) (shows us w n x))
@@ -146,7 +139,7 @@ apart c w d = by (bytes_eq c w) refl
     by false e = e
 
 pub elsewhere : (v : Bool) (m n : Text) (c w : Block) → (c ≡ w → ⊥) → (v && (bytes_eq m n && bytes_eq c w)) ≡ false
-elsewhere v m n c w d = ap (λ t. v && (bytes_eq m n && t)) (apart c w d) ∙ (ap (λ t. v && t) (and_none (bytes_eq m n)) ∙ and_none v)
+elsewhere v m n c w d = ap (λ t. v && (bytes_eq m n && t)) (apart c w d) ∙ (ap (λ t. v && t) (and-false (bytes_eq m n)) ∙ and-false v)
 
 -- ---- what an identifier means, by the first block that shows its name
 found_key : (os : List Found) (b : Block) (n : Text) (x : ℕ) (rest : Option Found)

@@ -8,8 +8,9 @@ use Rattle.wesl_scope_occurrences.specs.Walk.{Here}
 use Rattle.wesl_scope_occurrences.specs.Events.{EventOf, meets, ends}
 use Rattle.wesl_scope_open.specs.Scopes.{is_visible, binds}
 use Rattle.wesl_scope_open.specs.Open.{Readings, with_visible, after, of_block, number_of}
-use Rattle.wesl_scope_open.proofs.Runs.{Every, every_append, every_so, map_append, append_end, Found, shows, first_in, sights, sight_at, AllWithin, ReadWithin, within_append, none_shows, or_none, is_le, not_le}
+use Rattle.wesl_scope_open.proofs.Runs.{Every, every_append, every_so, map_append, append_end, Found, shows, first_in, sights, sight_at, AllWithin, ReadWithin, within_append, none_shows, is_le, not_le}
 use Rattle.wesl_scope_open.proofs.Good.{Placed, PlacedAs, Among, Outwards, Knows, first_same, first_within, holding, Ran, Outside, Good, after_append, sights_append}
+use mathlib.Core.Bool.{or-false, or-true}
 
 -- surroundings by the numbers of their blocks
 abbrev pub by_numbers : Surroundings Block → Here
@@ -93,7 +94,7 @@ module _ (lo : ℕ) (b : Block) (p p' q q' : ℕ) (ql : q ≤ q') (way : Outward
   knows_still v k x h i = λ n.
       k n
       ∙ first_same lo q (λ w. shows all w n p) (λ w. shows all w n x)
-      (λ w l m. sym (grows w n x h i l (omega (arith, m, ql)) ∙ (ap (λ t. shows all w n p || t) (none w n x m h i) ∙ or_none (shows all w n p)))) b way
+      (λ w l m. sym (grows w n x h i l (omega (arith, m, ql)) ∙ (ap (λ t. shows all w n p || t) (none w n x m h i) ∙ or-false (shows all w n p)))) b way
 
 pub still_good : (lo : ℕ) (b : Block) (p p' q q' : ℕ) (es : List (EventOf Text)) (os : List Found) → q ≤ q' → Outwards lo q b → Still b p p' es os → Good lo b p p' q q' es os
 still_good lo b p p' q q' es os ql way s = record {
@@ -115,10 +116,6 @@ still_good lo b p p' q q' es os ql way s = record {
 -- ---- a declaration statement from its name on
 abbrev pub the_name : ℕ → Text → ℕ → Block → Option ℕ → Bool → Found
 the_name e x p b d u = record { role = local e; name = x; place = p; block = b; declaration = d; excused = u }
-
-or_true : (a : Bool) → (a || true) ≡ true
-or_true true = refl
-or_true false = refl
 
 module _ (lo k : ℕ) (up : Block) (p p' q : ℕ) (way : Outwards lo q (k ∷ up)) (here : Here) (at : here.block ≡ k) (x : Text) (d : Option ℕ) (u : Bool) (es : List (EventOf Text)) (os : List Found) (s : Still (k ∷ up) (suc p) p' es os) where
   abbrev b : Block
@@ -144,20 +141,20 @@ module _ (lo k : ℕ) (up : Block) (p p' q : ℕ) (way : Outwards lo q (k ∷ up
     before_end y h i = λ n.
         kn n
         ∙ first_same lo q (λ w. shows all w n p) (λ w. shows all w n y)
-        (λ w l m. sym (a.grows w n y h (omega (arith, i)) l m ∙ (ap (λ t. shows all w n p || t) (unseen w n y i) ∙ or_none (shows all w n p)))) b way
+        (λ w l m. sym (a.grows w n y h (omega (arith, i)) l m ∙ (ap (λ t. shows all w n p || t) (unseen w n y i) ∙ or-false (shows all w n p)))) b way
 
     at_end : Knows all (with_visible x here.block v) b p'
     at_end n = by (bytes_eq x n) refl
       where
         by : (t : Bool) → bytes_eq x n ≡ t → (if bytes_eq x n then Some here.block else v n) ≡ (if shows all (k ∷ up) n p' then Some k else first_in (λ w. shows all w n p') up)
         by true e =
-            let f : shows all b n p' ≡ true = a.grows b n p' (omega (arith, sl)) (omega arith) way.0 way.1 ∙ (ap (λ t. shows all b n p || t) (seen n e) ∙ or_true (shows all b n p)) in
+            let f : shows all b n p' ≡ true = a.grows b n p' (omega (arith, sl)) (omega arith) way.0 way.1 ∙ (ap (λ t. shows all b n p || t) (seen n e) ∙ or-true (shows all b n p)) in
             rw (e, f, at) refl
         by false e =
             let g : v n ≡ first_in (λ w. shows all w n p') b =
             kn n
             ∙ first_same lo q (λ w. shows all w n p) (λ w. shows all w n p')
-            (λ w l m. sym (a.grows w n p' (omega (arith, sl)) (omega arith) l m ∙ (ap (λ t. shows all w n p || t) (other w n e) ∙ or_none (shows all w n p)))) b way in
+            (λ w l m. sym (a.grows w n p' (omega (arith, sl)) (omega arith) l m ∙ (ap (λ t. shows all w n p || t) (other w n e) ∙ or-false (shows all w n p)))) b way in
             ap (λ t. if t then Some here.block else v n) e ∙ g
 
     read_within : ReadWithin v here.block

@@ -14,11 +14,12 @@ use Rattle.wesl_scope_occurrences.specs.Walk.{Found}
 use Rattle.wesl_scope_occurrences.specs.Ways.{told}
 use Rattle.wesl_scope_strip.specs.Declarations.{lies_in, count, declared_in, referred_in, IsKept, named, nameless, reached}
 use Rattle.wesl_scope_strip.specs.Marks.{mark_at, has_name, names_here}
-use Rattle.wesl_scope_strip.proofs.Reaching.{both, and_true, found, reached_node, Reached, kept_first, wanted_first, referred, declared}
+use Rattle.wesl_scope_strip.proofs.Reaching.{found, reached_node, Reached, kept_first, wanted_first, referred, declared}
 use Rattle.wesl_scope_graph.specs.Graphs as graphs
 use Rattle.wesl_scope_graph.specs.Graphs.{Graph, Leads}
 use Rattle.wesl_scope_strip.specs.Steps.{IsStepOf}
 use Rattle.wesl_scope_strip.proofs.Reaching as reaching
+use Rattle.std.proofs.lemmas.Bool.{and_from, and_parts, or_right}
 
 contains_here : {A : Type 0} (x : A) (xs : List A) → Contains (x ∷ xs) x
 contains_here x xs = (0, omega arith, refl)
@@ -32,10 +33,6 @@ contains_none m c = let l : c.0 < 0 = c.1 in omega arith
 contains_cases : {A : Type 0} (x m : A) (xs : List A) → Contains (x ∷ xs) m → (x ≡ m) ⊎ Contains xs m
 contains_cases x m xs (zero, l, e) = inl e
 contains_cases x m xs (suc k, l, e) = inr (k, omega arith, e)
-
-or_right : (a b : Bool) → b ≡ true → (a || b) ≡ true
-or_right true b h = refl
-or_right false b h = h
 
 module _ {A : Type 0} (g : A → ℕ) (p : A → Bool) where
   abbrev test : ℕ → A → Bool
@@ -174,13 +171,13 @@ module _ (u : UnitView) (keep : List Text) (w : ℕ → Block) (os : List Found)
         (
           reached_kept true i h,
           any_refers i m (list_any_at (λ (o : Found). (is_reference o.role && lies_in i o.declaration) && (o.name == m)) os k d l
-              (and_true (is_reference o.role && lies_in i o.declaration) (o.name == m) (and_true (is_reference o.role) (lies_in i o.declaration) r (some_lies i o.declaration e)) ((Decides-eqb o.name m).1 n))),
+              (and_from (is_reference o.role && lies_in i o.declaration) (o.name == m) (and_from (is_reference o.role) (lies_in i o.declaration) r (some_lies i o.declaration e)) ((Decides-eqb o.name m).1 n))),
         ),
       )
   reached_kept _ _ (declared j m k d l r e n there h) =
       let o = get_or os k d in
       let c : Contains (declared_in u j) m = any_declares j m (list_any_at (λ (o : Found). (is_module_name o.role && lies_in j o.declaration) && (o.name == m)) os k d l
-      (and_true (is_module_name o.role && lies_in j o.declaration) (o.name == m) (and_true (is_module_name o.role) (lies_in j o.declaration) r (some_lies j o.declaration e)) ((Decides-eqb o.name m).1 n))) in
+      (and_from (is_module_name o.role && lies_in j o.declaration) (o.name == m) (and_from (is_module_name o.role) (lies_in j o.declaration) r (some_lies j o.declaration e)) ((Decides-eqb o.name m).1 n))) in
       from (subst (λ n. j < n) kept_length there) c (reached_kept false m h)
     where
       from : j < count u → Contains (declared_in u j) m → Wanted m → IsKept u keep j
@@ -194,8 +191,8 @@ module _ (u : UnitView) (keep : List Text) (w : ℕ → Block) (os : List Found)
       at f =
           let o = f.item in
           let same : get_or os f.place o ≡ o = f.is o in
-          let parts = both (is_module_name o.role && lies_in j o.declaration) (o.name == m) f.passes in
-          let inner = both (is_module_name o.role) (lies_in j o.declaration) parts.0 in
+          let parts = and_parts (is_module_name o.role && lies_in j o.declaration) (o.name == m) f.passes in
+          let inner = and_parts (is_module_name o.role) (lies_in j o.declaration) parts.0 in
           let n : o.name ≡ m = (Decides-eqb o.name m).0 parts.1 in
           let low : m < length u.names = subst (λ x. m < x) wanted_length (subst (λ x. x < length wanted0) (ap (λ x. x.name) same ∙ n) (within f.place o f.there)) in
           declared j m f.place o f.there (ap (λ x. is_module_name x.role) same ∙ inner.0) (ap (λ x. x.declaration) same ∙ lies_some j o.declaration inner.1) (ap (λ x. x.name) same ∙ n) (subst (λ x. j < x) (sym kept_length) l)
@@ -209,12 +206,12 @@ module _ (u : UnitView) (keep : List Text) (w : ℕ → Block) (os : List Found)
       at f g up =
           let o = f.item in
           let same : get_or os f.place o ≡ o = f.is o in
-          let parts = both (is_module_name o.role && lies_in j o.declaration) (o.name == m) f.passes in
-          let inner = both (is_module_name o.role) (lies_in j o.declaration) parts.0 in
+          let parts = and_parts (is_module_name o.role && lies_in j o.declaration) (o.name == m) f.passes in
+          let inner = and_parts (is_module_name o.role) (lies_in j o.declaration) parts.0 in
           let r = g.item in
           let same_r : get_or os g.place r ≡ r = g.is r in
-          let parts_r = both (is_reference r.role && lies_in i r.declaration) (r.name == m) g.passes in
-          let inner_r = both (is_reference r.role) (lies_in i r.declaration) parts_r.0 in
+          let parts_r = and_parts (is_reference r.role && lies_in i r.declaration) (r.name == m) g.passes in
+          let inner_r = and_parts (is_reference r.role) (lies_in i r.declaration) parts_r.0 in
           declared j m f.place o f.there (ap (λ x. is_module_name x.role) same ∙ inner.0) (ap (λ x. x.declaration) same ∙ lies_some j o.declaration inner.1) (ap (λ x. x.name) same ∙ (Decides-eqb o.name m).0 parts.1) (subst (λ x. j < x) (sym kept_length) l)
           (referred i m g.place r g.there (ap (λ x. is_reference x.role) same_r ∙ inner_r.0) (ap (λ x. x.declaration) same_r ∙ lies_some i r.declaration inner_r.1) (ap (λ x. x.name) same_r ∙ (Decides-eqb r.name m).0 parts_r.1) up)
 

@@ -1,5 +1,5 @@
 -- What marks reach in the graph of declarations and numbers.
-use Rattle.std.proofs.Common.{◌≡◌, ◌↔◌, ℕ, zero, suc, ◌+◌, ◌<◌, Bool, true, false, ◌&&◌, ◌||◌, List, [], ◌∷◌, ◌++◌, length, get_or, refl, sym, ◌∙◌, ap, subst, arith, inl, inr, length-append}
+use Rattle.std.proofs.Common.{◌≡◌, ◌↔◌, ℕ, zero, suc, ◌+◌, ◌<◌, Bool, true, false, ◌||◌, List, [], ◌∷◌, ◌++◌, length, get_or, refl, sym, ◌∙◌, ap, subst, arith, inl, inr, length-append}
 use Rattle.std.specs.Prelude.{Some}
 use Rattle.std.specs.List.{list_any, All, Contains}
 use Rattle.std.proofs.lemmas.List.{get_or_append_left, get_or-append-add}
@@ -9,14 +9,6 @@ use Rattle.wesl_scope_graph.specs.Graphs.{Graph, Leads}
 use Rattle.wesl_scope_occurrences.specs.Occurrences.{OccurrenceIn, is_module_name, is_reference}
 use Rattle.wesl_scope_strip.specs.Marks.{mark_at}
 use Rattle.wesl_scope_strip.specs.Steps.{IsStep, IsStepOf}
-
-pub both : (a b : Bool) → (a && b) ≡ true → (a ≡ true) × (b ≡ true)
-both true b h = (refl, h)
-both false b h = cc
-
-pub and_true : (a b : Bool) → a ≡ true → b ≡ true → (a && b) ≡ true
-and_true true b h k = k
-and_true false b h k = h
 
 -- an item that passes
 pub record Found {A : Type 0} (p : A → Bool) (xs : List A) : Type 0 where

@@ -1,5 +1,5 @@
 -- What is told of the rivals among the binders is what is told of all identifiers.
-use Rattle.std.proofs.Common.{◌≡◌, ℕ, Bool, true, false, cond, ◌&&◌, ◌||◌, ◌<◌, List, [], ◌∷◌, ◌++◌, length, map, refl, sym, ap, ap₂, ◌∙◌, subst, Option, None, Some}
+use Rattle.std.proofs.Common.{◌≡◌, ℕ, Bool, true, false, cond, ◌||◌, ◌<◌, List, [], ◌∷◌, ◌++◌, length, map, refl, sym, ap, ap₂, ◌∙◌, subst, Option, None, Some}
 use Rattle.std.specs.Prelude.{bytes_eq}
 use Rattle.std.specs.List.{All, filter, flat_map, list_any, zip}
 use Rattle.std.specs.Option.{option_map, option_to_list}
@@ -23,6 +23,7 @@ use Rattle.wesl_scope_words.specs.Captured.{captured, captures, clash_view, is_i
 use Rattle.wesl_scope_words.specs.declared.clash.WordClash.{WordClash}
 use Rattle.wesl_scope_words.proofs.Counted.{as_many_binders}
 use Rattle.wesl_scope_words.specs.Finding.{IsKnown, all_captured, declares, is_rival, seen}
+use Rattle.std.proofs.lemmas.Bool.{and_parts}
 
 -- ---- words
 spelled_so : (n : Text) (w : Text) → list_any (bytes_eq w) every_word ≡ true → bytes_eq n w ≡ true → list_any (bytes_eq n) every_word ≡ true
@@ -61,10 +62,6 @@ visible_binds p parameter h = refl
 visible_binds p (local e) h = refl
 visible_binds p (reference by) h = h
 visible_binds p word h = h
-
-both : (a b : Bool) → (a && b) ≡ true → (a ≡ true) × (b ≡ true)
-both true b h = (refl, h)
-both false b h = cc
 
 -- ---- lists
 filter_map_as : {X Y : Type 0} (f : X → Y) (p : Y → Bool) (xs : List X) → map f (filter (λ x. p (f x)) xs) ≡ filter p (map f xs)
@@ -107,8 +104,8 @@ module _ (names : List Text) (outer : List ℕ) (all : List Occurrence) where
       let p = captures names (memory_words m) v in
       ap (λ l. map (told names v) (filter p l)) seen_rivals
       ∙ ap (map (told names v))
-      (filter_twice p is_word (λ o h. known m (name_in names o.name) (both (list_any (bytes_eq (name_in names o.name)) (memory_words m)) (is_in_scope v o) h).0) (filter (λ o. is_binder o.role) os)
-      ∙ filter_twice p (λ o. is_binder o.role) (λ o h. visible_binds v.place o.role (both (is_visible v.place o.role) (is_within o.block v.block) (both (list_any (bytes_eq (name_in names o.name)) (memory_words m)) (is_in_scope v o) h).1).0) os)
+      (filter_twice p is_word (λ o h. known m (name_in names o.name) (and_parts (list_any (bytes_eq (name_in names o.name)) (memory_words m)) (is_in_scope v o) h).0) (filter (λ o. is_binder o.role) os)
+      ∙ filter_twice p (λ o. is_binder o.role) (λ o h. visible_binds v.place o.role (and_parts (is_visible v.place o.role) (is_within o.block v.block) (and_parts (list_any (bytes_eq (name_in names o.name)) (memory_words m)) (is_in_scope v o) h).1).0) os)
 
   same_pairs : (ms : List Memory) (ds : List (spec.Occurrence ℕ)) → flat_map (captured names (map (seen outer) (filter (is_rival names) vs))) (zip (map memory_words ms) ds) ≡ flat_map (captured names os) (zip (map memory_words ms) ds)
   same_pairs [] ds = refl

@@ -13,6 +13,7 @@ use Rattle.wesl_scope_occurrences.proofs.Respelled.{spelled_occurrences}
 use Rattle.wesl_scope_open.specs.Scopes.{binds, binder_of, is_visible}
 use Rattle.wesl_scope_words.specs.Captured.{captured, captures, is_in_scope, is_within, spoken, told}
 use Rattle.wesl_scope_words.specs.Free.{NoneIsFree}
+use Rattle.std.proofs.lemmas.Bool.{or_parts}
 
 -- ---- truth values
 swapped : (v n e : Bool) → (v && (n && e)) ≡ (n && (v && e))
@@ -38,10 +39,6 @@ crossed true b c d = refl
 crossed false true true d = refl
 crossed false true false d = refl
 crossed false false c d = refl
-
-neither : (a b : Bool) → (a || b) ≡ false → (a ≡ false) × (b ≡ false)
-neither true b h = cc
-neither false b h = (refl, h)
 
 -- ---- tests of lists
 module _ {X : Type 0} where
@@ -107,7 +104,7 @@ all_empty f (x ∷ xs) h = rw (h 0 x (omega arith), all_empty f xs (λ k d l. h 
 
 each_none : {X Y : Type 0} (o : X → Option Y) (xs : List X) → list_any (λ x. is_some (o x)) xs ≡ false → All (λ x. o x ≡ None) xs
 each_none o [] h = All-nil (λ x. o x ≡ None)
-each_none o (x ∷ xs) h = let b = neither (is_some (o x)) (list_any (λ x. is_some (o x)) xs) h in All-cons (λ x. o x ≡ None) x xs (none_of (o x) b.0) (each_none o xs b.1)
+each_none o (x ∷ xs) h = let b = or_parts (is_some (o x)) (list_any (λ x. is_some (o x)) xs) h in All-cons (λ x. o x ≡ None) x xs (none_of (o x) b.0) (each_none o xs b.1)
 
 -- ---- words
 module _ (names : List Text) (all : List (Occurrence ℕ)) where

@@ -3,6 +3,7 @@ use Rattle.std.proofs.Common.{◌≡◌, Bool, true, false, ◌&&◌, List, [], 
 use Rattle.wesl_tree_names.specs.Path.{Text}
 use Rattle.wesl_tree_syntax.specs.Tree.{Label, Forest, Tree, end, tree, ident, binder}
 use Rattle.wesl_scope_words.specs.Said.{words_of, said}
+use Rattle.std.proofs.lemmas.Bool.{and_parts}
 
 -- whether a label is not that of a name that is declared
 abbrev pub is_silent : Label → Bool
@@ -18,10 +19,6 @@ is_quiet (tree l children others) = is_silent l && is_quiet children && is_quiet
 abbrev pub IsQuiet : Tree → Type 0
 IsQuiet t = (is_silent t.label && is_quiet t.children) ≡ true
 
-both : (a b : Bool) → (a && b) ≡ true → (a ≡ true) × (b ≡ true)
-both true b h = (refl, h)
-both false b h = cc
-
 joins : (a b : List (List Text)) → a ≡ [] → b ≡ [] → a ++ b ≡ []
 joins a b p q = rw (p, q) refl
 
@@ -29,8 +26,8 @@ joins a b p q = rw (p, q) refl
 pub nothing_said : (ws : List Text) (f : Forest) → is_quiet f ≡ true → said ws f ≡ []
 nothing_said ws end h = refl
 nothing_said ws (tree l children others) h =
-    let a = both (is_silent l && is_quiet children) (is_quiet others) h in
-    let b = both (is_silent l) (is_quiet children) a.0 in
+    let a = and_parts (is_silent l && is_quiet children) (is_quiet others) h in
+    let b = and_parts (is_silent l) (is_quiet children) a.0 in
     by l b.0 (λ vs. nothing_said vs children b.1) (nothing_said ws others a.1)
   where
     by : (l : Label) → is_silent l ≡ true → ((vs : List Text) → said vs children ≡ []) → said ws others ≡ [] → said ws (tree l children others) ≡ []

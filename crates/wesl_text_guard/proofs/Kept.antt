@@ -3,14 +3,11 @@ use Rattle.std.proofs.Common.{◌≡◌, ℕ, Bool, true, false, not, ◌&&◌, 
 use Rattle.wesl_tree_syntax.specs.Tree.{LabelOf, Forest, ForestOf, Tree, before, end, tree, kind, at, ident, unary, binary, expression_node, present, parenthesized, named_component, indexing, list, template_argument, expression_case, workgroup_size, identifiers, label_below, forest_below, tree_below}
 use Rattle.wesl_text_form.specs.Operators.{Class, primary, same_class, operator_class, is_tight, takes_left, takes_right}
 use Rattle.wesl_text_guard.specs.Parentheses.{first_label, enclosed, fit, fit_option, first_fits, second_fits, each_fits, options_fit, others_fit, stands_listed, stands_as_operand, fitted, with_parentheses, tree_with_parentheses}
+use mathlib.Core.Bool.{and-true}
 
 append_none : {A : Type 0} (xs : List A) → xs ++ [] ≡ xs
 append_none [] = refl
 append_none (x ∷ xs) = ap (λ ys. x ∷ ys) (append_none xs)
-
-and_true : (b : Bool) → (b && true) ≡ b
-and_true true = refl
-and_true false = refl
 
 -- What is said of trees side by side may be kept where it is said of a tree and of those behind it, and parentheses say nothing.
 module _ {I A : Type 0} (said : ForestOf I → A) (joined : LabelOf I → A → A → A)
@@ -91,8 +88,8 @@ identifiers_kept b ts = kept identifiers joined_identifiers joined_so (λ s e ch
 
 pub below_kept : (n : ℕ) (b : Bool) (ts : Forest) → forest_below n (with_parentheses b ts) ≡ forest_below n ts
 below_kept n b ts = kept (forest_below n) (λ l children others. label_below n l && children && others) (λ l children others. refl)
-    (λ s e children others. ap (λ z. z && others) (and_true (children && true) ∙ and_true children)) b ts
+    (λ s e children others. ap (λ z. z && others) (and-true (children && true) ∙ and-true children)) b ts
 
 pub tree_below_kept : (n : ℕ) (b : Bool) (t : Tree) → tree_below n (tree_with_parentheses b t) ≡ tree_below n t
 tree_below_kept n b t = ap (λ z. label_below n t.label && z) (kept_fitted (forest_below n) (λ l children others. label_below n l && children && others) (λ l children others. refl)
-    (λ s e children others. ap (λ z. z && others) (and_true (children && true) ∙ and_true children)) b t.label (with_parentheses b t.children) ∙ below_kept n b t.children)
+    (λ s e children others. ap (λ z. z && others) (and-true (children && true) ∙ and-true children)) b t.label (with_parentheses b t.children) ∙ below_kept n b t.children)

@@ -13,19 +13,16 @@ use Rattle.wesl_text_form.specs.Spelling.{Forest, Slots, followed, label_at, nam
 use Rattle.wesl_text_guard.specs.Laws.{OperationsHaveTexts, PartsHaveTexts, expression_of}
 use Rattle.wesl_text_guard.specs.Parentheses.{enclosed, first_label, fit, stands_as_operand, stands_listed, with_parentheses}
 use Rattle.wesl_text_guard.proofs.Absorbed.{left_takes_primary, right_takes_primary}
+use mathlib.Core.Bool.{and-true}
 
 some_followed : (a b : Slots) → is_some (followed a b) ≡ (is_some a && is_some b)
 some_followed None b = refl
 some_followed (Some ss) None = refl
 some_followed (Some ss) (Some us) = refl
 
-and_true : (b : Bool) → (b && true) ≡ b
-and_true true = refl
-and_true false = refl
-
 -- slots behind nothing, and before nothing
 some_alone : (a : Slots) → is_some (followed a (Some [])) ≡ is_some a
-some_alone a = some_followed a (Some []) ∙ and_true (is_some a)
+some_alone a = some_followed a (Some []) ∙ and-true (is_some a)
 
 some_behind : (s : Slot) (a : Slots) → is_some (followed (Some (s ∷ [])) a) ≡ is_some a
 some_behind s a = some_followed (Some (s ∷ [])) a
@@ -46,7 +43,7 @@ in_parentheses : (ts : Forest) → is_some (seen (enclosed (at expression_node 0
 in_parentheses ts =
     some_alone (followed (Some (signed is.ParenLeft ∷ [])) (followed (seen ts) (followed (Some (signed is.ParenRight ∷ [])) (Some []))))
     ∙ (some_behind (signed is.ParenLeft) (followed (seen ts) (Some (signed is.ParenRight ∷ [])))
-    ∙ (some_followed (seen ts) (Some (signed is.ParenRight ∷ [])) ∙ and_true (is_some (seen ts))))
+    ∙ (some_followed (seen ts) (Some (signed is.ParenRight ∷ [])) ∙ and-true (is_some (seen ts))))
 
 module _ (takes : Class → Bool) (p : takes primary ≡ true) (ts : Forest) where
   operand_text : is_some (seen (below takes ts)) ≡ is_some (seen ts)
@@ -80,7 +77,7 @@ two_texts : (f g : Class → Bool) → f primary ≡ true → g primary ≡ true
 two_texts f g p q s behind ts us h =
     some_followed (seen (below f ts)) (followed (Some (s ∷ [])) (followed (seen (below g us)) behind))
     ∙ (ap (λ z. is_some (seen (below f ts)) && z) (some_behind s (followed (seen (below g us)) behind) ∙ (some_followed (seen (below g us)) behind
-    ∙ (ap (λ z. is_some (seen (below g us)) && z) h ∙ (and_true (is_some (seen (below g us))) ∙ operand_text g q us))))
+    ∙ (ap (λ z. is_some (seen (below g us)) && z) h ∙ (and-true (is_some (seen (below g us))) ∙ operand_text g q us))))
     ∙ ap (λ z. z && is_some (seen us)) (operand_text f p ts))
 
 both_taken : (f g : Class → Bool) → f primary ≡ true → g primary ≡ true → (ts us : Forest) → ((f (class_of (label_at 0 (below f ts))) && g (class_of (label_at 0 (below g us)))) && true) ≡ true

@@ -11,9 +11,9 @@ use Rattle.wesl_text_form.specs.Operators.{class_of, is_tight}
 use Rattle.wesl_text_form.specs.Productions.{Sort, an_expression, a_type, an_argument, an_attribute, a_statement, a_bare_statement, a_selector, Leaf, an_ident, an_item, a_name, a_word, a_custom, a_literal, a_rule, some_words, one_or_two, steps, a_path, Row, nothing, sym, may_sym, says, opens, closes, own, leaf, run, commas, optional, inside, target, selectors, unended, arrow, attrs, row_of}
 use Rattle.wesl_text_form.specs.Spelling.{Label, Forest, Slots, spells, followed, named, signed, trailing, leaf_slots, first_slots, row_slots, row_of_none, with_comma, fits, stands_as, label_at, is_kind, is_underscore, is_wildcard, leads_to_place, is_lone_default, is_end, is_absent_at, without_last}
 use Rattle.wesl_text_reading.proofs.Filled.{no_some, of_some, no_true}
-use Rattle.wesl_text_reading.proofs.Takes.{and_parts}
 use Rattle.wesl_text_reading.proofs.KindsAgain.{label_is}
 use Rattle.wesl_text_respell.proofs.Trees.{is_fair, rows_fair}
+use Rattle.std.proofs.lemmas.Bool.{and_from, and_parts}
 
 -- a path alone
 abbrev pub is_path_leaf : Forest → Bool
@@ -81,11 +81,8 @@ pub good_comma : (z : Bool) (a : Slots) → Good z a → Good z (option_map (λ 
 good_comma z None h = tt
 good_comma z (Some ss) h = h
 
-pub both_so : (a b : Bool) → a ≡ true → b ≡ true → (a && b) ≡ true
-both_so a b h g = ap (λ z. z && b) h ∙ g
-
 all_so : (a b d : Bool) → (a && b) ≡ true → d ≡ true → (a && (b && d)) ≡ true
-all_so a b d h g = let x : (a ≡ true) × (b ≡ true) = and_parts a b h in both_so a (b && d) x.0 (both_so b d x.1 g)
+all_so a b d h g = let x : (a ≡ true) × (b ≡ true) = and_parts a b h in and_from a (b && d) x.0 (and_from b d x.1 g)
 
 pub not_so : (b : Bool) → not b ≡ true → b ≡ false
 not_so true h = absurd (no_true h)
@@ -120,7 +117,7 @@ leaf_label (a_path slashes) (path p) o = good_true true (leaf_slots (a_path slas
 leaf_label f l o = tt
 
 leaf_good : (f : Leaf) (l : Label) (c o : Forest) → is_end c ≡ true → Good (good_label l c && is_good c) (leaf_slots f l o)
-leaf_good f l end o h = good_more (good_label l end) (good_label l end && true) (leaf_slots f l o) (λ e. both_so (good_label l end) true e refl) (leaf_label f l o)
+leaf_good f l end o h = good_more (good_label l end) (good_label l end && true) (leaf_slots f l o) (λ e. and_from (good_label l end) true e refl) (leaf_label f l o)
 leaf_good f l (tree m d p) o h = absurd (no_true h)
 
 -- ---- types
@@ -204,7 +201,7 @@ module _ (l : Label) (c o : Forest) (below : RowsGood c) (separate : SeparateGoo
   first_good s = by (row_of s l) (λ x e. both (good_label l c) (is_good c) ((spells c).row x) (label_good l s c x e) (below x (rows_fair s l x e))) where
     both : (a b : Bool) (x : Slots) → Good a x → Good b x → Good (a && b) x
     both a b None h g = tt
-    both a b (Some ss) h g = both_so a b h g
+    both a b (Some ss) h g = and_from a b h g
 
     by : (q : Option Row) → ((x : Row) → q ≡ Some x → Good (good_label l c && is_good c) ((spells c).row x))
         → Good (good_label l c && is_good c) (option_and_then (λ r. if fits l c && stands_as s l c then (spells c).row r else None) q)
@@ -215,7 +212,7 @@ module _ (l : Label) (c o : Forest) (below : RowsGood c) (separate : SeparateGoo
   own_good a b h g = good_joined (good_label l c && is_good c) (is_good o) whole a b (λ x y. all_so (good_label l c) (is_good c) (is_good o) x y) h g
 
   kind_so : (a : Slots) (b : Slots) → good_label l c ≡ true → Good (is_good c) a → Good (is_good o) b → Good whole (followed a b)
-  kind_so a b e h g = good_joined (is_good c) (is_good o) whole a b (λ x y. all_so (good_label l c) (is_good c) (is_good o) (both_so (good_label l c) (is_good c) e x) y) h g
+  kind_so a b e h g = good_joined (is_good c) (is_good o) whole a b (λ x y. all_so (good_label l c) (is_good c) (is_good o) (and_from (good_label l c) (is_good c) e x) y) h g
 
   tree_good : RowsGood (tree l c o)
   tree_good nothing h = tt
@@ -238,7 +235,7 @@ module _ (l : Label) (c o : Forest) (below : RowsGood c) (separate : SeparateGoo
       let x : (is_fair ins ≡ true) × (is_fair row ≡ true) = and_parts (is_fair ins) (is_fair row) h in
       good_either whole (is_kind absent (Some l) && is_end c) ((spells o).row row) (if is_kind present (Some l) then followed ((spells c).row ins) ((spells o).row row) else None)
       (λ e. let y : (is_kind absent (Some l) ≡ true) × (is_end c ≡ true) = and_parts (is_kind absent (Some l)) (is_end c) e in
-      good_more (is_good o) whole ((spells o).row row) (λ g. all_so (good_label l c) (is_good c) (is_good o) (both_so (good_label l c) (is_good c) (kind_good absent l c refl y.0) (end_good c y.1)) g) (later row x.1))
+      good_more (is_good o) whole ((spells o).row row) (λ g. all_so (good_label l c) (is_good c) (is_good o) (and_from (good_label l c) (is_good c) (kind_good absent l c refl y.0) (end_good c y.1)) g) (later row x.1))
       (λ e. good_either whole (is_kind present (Some l)) (followed ((spells c).row ins) ((spells o).row row)) None
       (λ g. kind_so ((spells c).row ins) ((spells o).row row) (kind_good present l c refl g) (below ins x.0) (later row x.1)) (λ g. tt))
   tree_good (inside k ins row) h =

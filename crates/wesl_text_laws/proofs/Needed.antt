@@ -11,11 +11,12 @@ use Rattle.wesl_text_form.specs.Operators.{class_of, is_tight}
 use Rattle.wesl_text_form.specs.Productions.{Sort, an_expression, a_bare_expression, an_attribute, a_bare_attribute, a_space, an_access, an_import, a_bare_import, a_directive, a_bare_directive, a_member, a_bare_member, a_statement, a_bare_statement, a_declaration, a_bare_declaration, a_selector, Leaf, an_ident, an_item, Row, nothing, sym, may_sym, says, opens, closes, own, leaf, run, commas, optional, inside, target, selectors, unended, arrow, rows_of, row_of, spanned}
 use Rattle.wesl_text_form.specs.Spelling.{Label, Forest, Slots, spells, followed, provided, named, signed, trailing, item_role, leaf_slots, first_slots, row_slots, row_of_none, with_comma, fits, stands_as, label_at, is_kind, is_wildcard, leads_to_place, is_lone_default, is_end, is_absent_at, without_last}
 use Rattle.wesl_text_reading.proofs.Filled.{no_some, of_some, no_true}
-use Rattle.wesl_text_reading.proofs.Takes.{and_parts, at_rows}
+use Rattle.wesl_text_reading.proofs.Takes.{at_rows}
 use Rattle.wesl_text_reading.proofs.KindsAgain.{label_is}
 use Rattle.wesl_text_respell.proofs.Trees.{is_fair, rows_fair}
 use Rattle.wesl_text_laws.specs.Laws.{has_name, target_below, are_named}
-use Rattle.wesl_text_laws.proofs.Good.{Good, good_true, good_more, good_joined, good_either, good_trailing, good_cut, good_comma, both_so}
+use Rattle.wesl_text_laws.proofs.Good.{Good, good_true, good_more, good_joined, good_either, good_trailing, good_cut, good_comma}
+use Rattle.std.proofs.lemmas.Bool.{and_from, and_parts}
 
 -- ---- which rows
 
@@ -96,7 +97,7 @@ AllNamed f = (s : Sort) → Good (are_named 0 f) ((spells f).all s)
 
 either_so : (w i b : Bool) → i ≡ true → b ≡ true → ((w || i) && b) ≡ true
 either_so true i b h g = g
-either_so false i b h g = both_so i b h g
+either_so false i b h g = and_from i b h g
 
 module _ (l : Label) (c o : Forest) (below : RowsNamed c) (separate : SeparateNamed c) (all : AllNamed c) (later : RowsNamed o) (others : SeparateNamed o) where
   abbrev inner : Bool
@@ -109,7 +110,7 @@ module _ (l : Label) (c o : Forest) (below : RowsNamed c) (separate : SeparateNa
   first_named s = by (row_of s l) (λ x e. (row_named s l x e, below x (target_below l) (rows_fair s l x e) (rows_target s l x e))) where
     both : (a b : Bool) (x : Slots) → a ≡ true → Good b x → Good (a && b) x
     both a b None h g = tt
-    both a b (Some ss) h g = both_so a b h g
+    both a b (Some ss) h g = and_from a b h g
 
     by : (q : Option Row) → ((x : Row) → q ≡ Some x → (has_name l ≡ true) × Good (are_named (target_below l) c) ((spells c).row x))
         → Good inner (option_and_then (λ r. if fits l c && stands_as s l c then (spells c).row r else None) q)
@@ -119,7 +120,7 @@ module _ (l : Label) (c o : Forest) (below : RowsNamed c) (separate : SeparateNa
         good_either inner (fits l c && stands_as s l c) ((spells c).row x) None (λ e. both (has_name l) (are_named (target_below l) c) ((spells c).row x) y.0 y.1) (λ e. tt)
 
   leaf_named : (f : Leaf) → is_end c ≡ true → Good inner (leaf_slots f l o)
-  leaf_named f e = good_more (has_name l) inner (leaf_slots f l o) (λ h. both_so (has_name l) (are_named (target_below l) c) h (none c e)) (name_leaf f l o) where
+  leaf_named f e = good_more (has_name l) inner (leaf_slots f l o) (λ h. and_from (has_name l) (are_named (target_below l) c) h (none c e)) (name_leaf f l o) where
     none : (c : Forest) → is_end c ≡ true → are_named (target_below l) c ≡ true
     none end h = refl
     none (tree m d p) h = absurd (no_true h)
@@ -176,7 +177,7 @@ module _ (l : Label) (c o : Forest) (below : RowsNamed c) (separate : SeparateNa
       let u : ((n == 1) ≡ true) × (has_target (n - 1) row ≡ true) = and_parts (n == 1) (has_target (n - 1) row) t in
       good_either (whole n) (is_wildcard l c) (followed (Some (named (codes "_") ∷ [])) ((spells o).row row))
       (if is_tight (class_of (label_at 0 c)) && leads_to_place c then followed (first_slots l c (spells c) an_expression) ((spells o).row row) else None)
-      (λ e. good_joined true (are_named (n - 1) o) (whole n) (Some (named (codes "_") ∷ [])) ((spells o).row row) (λ a b. ap (λ z. (z || inner) && are_named (n - 1) o) (both_so (n == 1) (is_wildcard l c) u.0 e) ∙ b) refl (later row (n - 1) h u.1))
+      (λ e. good_joined true (are_named (n - 1) o) (whole n) (Some (named (codes "_") ∷ [])) ((spells o).row row) (λ a b. ap (λ z. (z || inner) && are_named (n - 1) o) (and_from (n == 1) (is_wildcard l c) u.0 e) ∙ b) refl (later row (n - 1) h u.1))
       (λ e. good_either (whole n) (is_tight (class_of (label_at 0 c)) && leads_to_place c) (followed (first_slots l c (spells c) an_expression) ((spells o).row row)) None
       (λ g. own_named (first_slots l c (spells c) an_expression) ((spells o).row row) n (first_named an_expression) (later row (n - 1) h u.1)) (λ g. tt))
   tree_named (selectors row) n h t =
@@ -200,9 +201,9 @@ module _ (l : Label) (c o : Forest) (below : RowsNamed c) (separate : SeparateNa
   separate_named : SeparateNamed (tree l c o)
   separate_named s = by o (others s) where
     by : (o : Forest) → Good (are_named 0 o) ((spells o).separate s) → Good (inner && are_named 0 o) (with_comma (first_slots l c (spells c) s) o ((spells o).separate s))
-    by end h = good_more inner (inner && true) (first_slots l c (spells c) s) (λ e. both_so inner true e refl) (first_named s)
+    by end h = good_more inner (inner && true) (first_slots l c (spells c) s) (λ e. and_from inner true e refl) (first_named s)
     by (tree m d p) h = good_joined inner (are_named 0 (tree m d p)) (inner && are_named 0 (tree m d p)) (first_slots l c (spells c) s) (option_map (λ ss. signed is.Comma ∷ ss) ((spells (tree m d p)).separate s))
-        (λ x y. both_so inner (are_named 0 (tree m d p)) x y) (first_named s) (good_comma (are_named 0 (tree m d p)) ((spells (tree m d p)).separate s) h)
+        (λ x y. and_from inner (are_named 0 (tree m d p)) x y) (first_named s) (good_comma (are_named 0 (tree m d p)) ((spells (tree m d p)).separate s) h)
 
 record TreesNamed (f : Forest) : Type 0 where
   pub row : RowsNamed f

@@ -7,13 +7,13 @@ use Rattle.wesl_tree_syntax.specs.Nodes.{is_type}
 use Rattle.wesl_text_form.specs.Names.{is_name}
 use Rattle.wesl_text_form.specs.Spelling.{Label, Forest, is_wildcard, is_end}
 use Rattle.wesl_text_reading.proofs.Filled.{no_true}
-use Rattle.wesl_text_reading.proofs.Takes.{and_parts}
 use Rattle.wesl_text_respell.specs.Respelled.{named_by, IsNamed, IsRespelled, ends, same, renamed, unqualified, discards}
 use Rattle.wesl_text_respell.proofs.Follow.{Wild, wild_is}
 use Rattle.wesl_link_assembly.specs.Linked.{shape}
 use Rattle.wesl_link_assembly.specs.Pathless.{without_path, has_words, without_paths}
 use Rattle.wesl_text_laws.specs.Laws.{has_name, target_below, are_named}
-use Rattle.wesl_text_laws.proofs.Good.{begins_well, begins_attributes, good_label, is_good, both_so}
+use Rattle.wesl_text_laws.proofs.Good.{begins_well, begins_attributes, good_label, is_good}
+use Rattle.std.proofs.lemmas.Bool.{and_from, and_parts}
 
 abbrev Outline : Type 0
 Outline = ForestOf (Unit {0})
@@ -172,11 +172,11 @@ named_or (tree m b (tree n t v)) h = by (is_wildcard n t) refl (and_parts mine (
   behind z = (z || (has_name n && are_named (target_below n) t)) && are_named 0 v
 
   by : (z : Bool) → is_wildcard n t ≡ z → (mine ≡ true) × (behind (is_wildcard n t) ≡ true) → (are_named 0 (tree m b (tree n t v)) ≡ true) ⊎ Discarded (tree m b (tree n t v))
-  by false e x = inl (both_so mine (behind false) x.0 (ap behind (turned e) ∙ x.1))
+  by false e x = inl (and_from mine (behind false) x.0 (ap behind (turned e) ∙ x.1))
   by true e x =
       let y : Wild n t = wild_is n t e in
       let w : are_named 0 v ≡ true = ap behind (turned e) ∙ x.1 in
-      inr (record { first = m; own = b; value = v; is = ap₂ (λ j u. tree m b (tree j u v)) y.0 y.1; named = both_so mine (are_named 0 v) x.0 w })
+      inr (record { first = m; own = b; value = v; is = ap₂ (λ j u. tree m b (tree j u v)) y.0 y.1; named = and_from mine (are_named 0 v) x.0 w })
 
 -- those that come of trees as W says, where names and attributes stay
 module _ (W : Forest → Forest) (none : W end ≡ end) (parted : (l : Label) (c o : Forest) → (x : Forest) × (W (tree l c o) ≡ tree l x (W o)))
@@ -230,7 +230,7 @@ module _ (W : Forest → Forest) (none : W end ≡ end) (parted : (l : Label) (c
       but : are_unplaced (tree x.first x.own (tree node wild x.value)) ≡ true → are_unplaced (tree x.first x.own x.value) ≡ true
       but q =
           let y : (is_unplaced x.first ≡ true) × ((are_unplaced x.own && are_unplaced x.value) ≡ true) = and_parts (is_unplaced x.first) (are_unplaced x.own && are_unplaced x.value) q in
-          both_so (is_unplaced x.first) (are_unplaced x.own && are_unplaced x.value) y.0 y.1
+          and_from (is_unplaced x.first) (are_unplaced x.own && are_unplaced x.value) y.0 y.1
 
 -- whether a label is that of an assignment by `=`, whose target may be `_`
 abbrev is_assignment : Label → Bool

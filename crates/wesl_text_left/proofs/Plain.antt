@@ -9,11 +9,11 @@ use Rattle.wesl_text_tokens.specs.Tokens.{Token, name, number, symbol, open_list
 use Rattle.wesl_text_form.specs.Slots.{Slot, must, may, alone, fewest}
 use Rattle.wesl_text_form.specs.Says.{sign_bits, token_bits, bits_apart}
 use Rattle.wesl_text_reading.proofs.Filled.{no_true}
-use Rattle.wesl_text_reading.proofs.Takes.{and_parts}
 use Rattle.wesl_text_writable.proofs.Fresh.{either_is}
 use Rattle.wesl_text_writable.proofs.Grouped.{number_behind, NoBrackets, IsBracketed}
 use Rattle.wesl_text_writable.proofs.KnownApart.{known_apart}
 use Rattle.wesl_text_writable.proofs.MadeApart.{AllBracketed, AreMeant}
+use Rattle.std.proofs.lemmas.Bool.{and_parts}
 
 -- the tokens of formulas
 abbrev pub is_plain : Token → Bool

@@ -14,7 +14,6 @@ use Rattle.wesl_text_form.specs.Operators.{primary, both, either, class_of, is_t
 use Rattle.wesl_text_form.specs.Productions.{an_expression, a_bare_expression, a_type, an_argument, an_ident, a_path, Row, nothing, sym, opens, closes, own, leaf, commas, optional}
 use Rattle.wesl_text_form.specs.Spelling.{Label, Forest, Slots, spells, followed, provided, named, signed, stepped, origin_slots, leaf_slots, first_slots, fits, stands_as, class_at, is_kind, is_end}
 use Rattle.wesl_text_reading.proofs.Filled.{no_true}
-use Rattle.wesl_text_reading.proofs.Takes.{and_parts}
 use Rattle.wesl_text_reading.proofs.KindsAgain.{kind_is}
 use Rattle.wesl_cond_features.specs.Features.{Replies}
 use Rattle.wesl_cond_chains.specs.Formulas.{Spot, other, within, negation, conjunction, disjunction, nowhere, type_name, has_arguments, named_as, reading, spots}
@@ -22,6 +21,7 @@ use Rattle.wesl_cond_chains.specs.FormulaFaults.{formula_faults}
 use Rattle.wesl_cond_chains.proofs.Faultless.{none_before, none_after}
 use Rattle.wesl_text_left.proofs.Plain.{are_plain, plain_joined}
 use Rattle.wesl_text_left.proofs.Fine.{class, Fine, IsPlain}
+use Rattle.std.proofs.lemmas.Bool.{and_parts}
 
 -- ---- slots that are there
 

@@ -5,6 +5,7 @@ use Rattle.std.specs.Str.{bytes_eq}
 use Rattle.wesl_tree_names.specs.Path.{Text}
 use Rattle.wesl_text_form.specs.Names.{begins_private, is_among, is_free, keywords, reserved_words}
 use Rattle.wesl_text_read.specs.TakenWords.{AreTakenWords}
+use Rattle.std.proofs.lemmas.Bool.{and_parts}
 
 -- whether a word begins otherwise
 abbrev pub begins_otherwise : ℕ → Text → Bool
@@ -16,19 +17,15 @@ abbrev pub covers : ℕ → List Text → List Text → Bool
 covers b [] ws = true
 covers b (u ∷ us) ws = (begins_otherwise b u || is_among ws u) && covers b us ws
 
-both : (p q : Bool) → (p && q) ≡ true → (p ≡ true) × (q ≡ true)
-both true q h = (refl, h)
-both false q h = absurd (true≢false (sym h))
-
 among-so : (b : ℕ) (t : Text) (ws : List Text) → (begins_otherwise b (b ∷ t) || is_among ws (b ∷ t)) ≡ true → is_among ws (b ∷ t) ≡ true
 among-so b t ws h = sym (ap (λ (z : Bool). not z || is_among ws (b ∷ t)) (eq-eqb b b refl)) ∙ h
 
 among-covered : (b : ℕ) (us ws : List Text) → covers b us ws ≡ true → (t : Text) → is_among us (b ∷ t) ≡ true → is_among ws (b ∷ t) ≡ true
 among-covered b [] ws h t e = absurd (true≢false (sym e))
-among-covered b (u ∷ us) ws h t e = by (bytes_eq (b ∷ t) u) refl e (among-covered b us ws (both (begins_otherwise b u || is_among ws u) (covers b us ws) h).1 t)
+among-covered b (u ∷ us) ws h t e = by (bytes_eq (b ∷ t) u) refl e (among-covered b us ws (and_parts (begins_otherwise b u || is_among ws u) (covers b us ws) h).1 t)
   where
     by : (p : Bool) → bytes_eq (b ∷ t) u ≡ p → (p || is_among us (b ∷ t)) ≡ true → (is_among us (b ∷ t) ≡ true → is_among ws (b ∷ t) ≡ true) → is_among ws (b ∷ t) ≡ true
-    by true q d rest = among-so b t ws (subst (λ v. (begins_otherwise b v || is_among ws v) ≡ true) (sym ((bytes_eq-Decides (b ∷ t) u).0 q)) (both (begins_otherwise b u || is_among ws u) (covers b us ws) h).0)
+    by true q d rest = among-so b t ws (subst (λ v. (begins_otherwise b v || is_among ws v) ≡ true) (sym ((bytes_eq-Decides (b ∷ t) u).0 q)) (and_parts (begins_otherwise b u || is_among ws u) (covers b us ws) h).0)
     by false q d rest = rest d
 
 as-true : (p q : Bool) → (p ≡ true → q ≡ true) → (q ≡ true → p ≡ true) → p ≡ q
@@ -44,7 +41,7 @@ among-both (u ∷ us) ws t = by (bytes_eq t u) (among-both us ws t)
     by true h = refl
     by false h = h
 
--- both questions are answered by computing
+-- and_parts questions are answered by computing
 pub taken : (b : ℕ) (ws : List Text) → covers b ws (keywords ++ reserved_words) ≡ true → covers b (keywords ++ reserved_words) ws ≡ true → AreTakenWords b ws
 unfolding AreTakenWords
 taken b ws f g t =

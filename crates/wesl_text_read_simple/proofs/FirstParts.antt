@@ -23,6 +23,7 @@ use Rattle.wesl_text_read_simple.specs.declared.expressed.Change.{Change}
 use Rattle.wesl_text_read_simple.specs.declared.expressed.Change.TheVariants as changes
 use Rattle.wesl_text_read_simple.specs.Starts.{word_label}
 use Rattle.wesl_text_read_simple.specs.Simple.{FirstPart, a_call_alone, a_place, change_first, change_of, changed_of, may_change, part_of, unended_of}
+use mathlib.Core.Bool.{and-true}
 
 -- ---- labels
 
@@ -92,10 +93,6 @@ word-told t (open_list ∷ ts) h = cc
 word-told t (close_list ∷ ts) h = cc
 
 -- ---- parts
-
-and-true : (b : Bool) → (b && true) ≡ b
-and-true true = refl
-and-true false = refl
 
 -- what an expression begins with does not depend on what is behind it:
 begins-alone : (l : Label) (c o p : Forest) → begins_enclosed (tree l c o) ≡ begins_enclosed (tree l c p)

@@ -44,6 +44,7 @@ use Rattle.wesl_text_read_simple.proofs.FirstParts.{behind-label, by_label, labe
 use Rattle.wesl_text_read_simple.proofs.Nodes.{below, below_rows, declaration-node, end_read, label-node, told-statement}
 use Rattle.wesl_text_read_simple.proofs.Parts.{attributes_known, once_known}
 use Rattle.wesl_text_read_simple.proofs.Parted.{tested}
+use mathlib.Core.Bool.{and-false}
 
 -- ---- with `;`
 
@@ -237,10 +238,6 @@ wild-target child ts h =
 wild-tree : (o : Option (List Token)) (t : TreeOf Text) (us : List Token) → ◌≡◌ {A = Read (TreeOf Text)} (option_and_then (λ vs. Some (wildcard (λ s ws. None), vs)) o) (Some (t, us)) → wildcard (λ s ws. None) ≡ t
 wild-tree None t us h = cc
 wild-tree (Some vs) t us h = ap (λ (o : Read (TreeOf Text)). elim o as (λ _. TreeOf Text) [ None ↦ wildcard (λ s ws. None) | Some y ↦ y.0 ]) h
-
-and-false : (b : Bool) → (b && false) ≡ false
-and-false true = refl
-and-false false = refl
 
 wild-apart : (a t v : TreeOf Text) → wildcard (λ s ws. None) ≡ t → are_apart (before a (before t (before v end))) ≡ true
 wild-apart a t v h =

@@ -15,7 +15,7 @@ use Rattle.wesl_text_reading.specs.FirstTokens.{words_of_attributes, attribute_l
 use Rattle.wesl_text_reading.specs.Reading.{Reader, node_of, node, and_others, begins_post, begins_row, read_row, read_part}
 use Rattle.wesl_text_reading.proofs.Classes.{denied}
 use Rattle.wesl_text_reading.proofs.Filled.{no_some, of_some, no_true, fill, parts, one, stands}
-use Rattle.wesl_text_reading.proofs.Takes.{and_parts, chosen, where_true, first_parts}
+use Rattle.wesl_text_reading.proofs.Takes.{chosen, where_true, first_parts}
 use Rattle.wesl_text_reading.proofs.Within.{Within, within_below}
 use Rattle.wesl_text_reading.proofs.RowReads.{Rest, RowOk, row_reads, joined}
 use Rattle.wesl_text_reading.proofs.KindsAgain.{label_is, end_is}
@@ -23,6 +23,7 @@ use Rattle.wesl_text_reading.proofs.Types.{must_first}
 use Rattle.wesl_text_reading.proofs.Chains.{row_token}
 use Rattle.wesl_text_reading.proofs.Operands.{Ended, InRows, in_rows, nothing_left, own_first, leaf_first, row_optional, begins_one}
 use Rattle.wesl_text_reading.proofs.Complete.{ReadsSort, node_from, list_of_expressions}
+use Rattle.std.proofs.lemmas.Bool.{and_parts}
 
 -- a word that a row says
 pub row_word : (f : Forest) (w : Text) (row : Row) (ts us : List Token) → fill ((spells f).row (says w row)) ts ≡ Some us → (vs : List Token) × (ts ≡ name w ∷ vs) × (fill ((spells f).row row) vs ≡ Some us)

@@ -13,7 +13,7 @@ use Rattle.wesl_text_form.specs.Spelling.{Label, Forest, spells, first_slots, fi
 use Rattle.wesl_text_reading.specs.FirstTokens.{label_behind_expression}
 use Rattle.wesl_text_reading.specs.Reading.{Reader, node_of, node, label_of_statement, read_row, read_part}
 use Rattle.wesl_text_reading.proofs.Filled.{no_some, of_some, fill}
-use Rattle.wesl_text_reading.proofs.Takes.{and_parts, first_parts}
+use Rattle.wesl_text_reading.proofs.Takes.{first_parts}
 use Rattle.wesl_text_reading.proofs.Classes.{denied}
 use Rattle.wesl_text_reading.proofs.Within.{Within, within_below}
 use Rattle.wesl_text_reading.proofs.RowReads.{RowOk}
@@ -28,6 +28,7 @@ use Rattle.wesl_text_reading.proofs.Simple.{Begun, assignment_ends, assignment_t
 use Rattle.wesl_text_reading.proofs.SimpleWords.{Tail, declaration_row, declaration_reads, call_reads}
 use Rattle.wesl_text_reading.proofs.Statements.{Stands, Bodies, Statement, switch_row, loop_row, if_row, assert_reads, while_reads, break_reads, continue_reads, discard_reads, return_reads, void_reads, compound_reads, switch_reads, loop_reads, if_statement_reads}
 use Rattle.wesl_text_reading.proofs.ForLoop.{for_row, for_reads}
+use Rattle.std.proofs.lemmas.Bool.{and_parts}
 
 module _ (child : Sort → Reader) (n : ℕ) (one_attribute : ReadsSort child n an_attribute Unopened (child an_attribute)) (parted : ReadsParted child n (child an_attribute)) (exprs : ReadsSort child n an_expression Ended (child an_expression))
     (kinds : ReadsSort child n a_kind NoList (child a_kind)) (types : ReadsSort child n a_type Ends (child a_type)) (calls : ReadsSort child n a_call (λ us. Unit {0}) (child a_call)) where

@@ -19,10 +19,11 @@ use Rattle.wesl_text_reading.specs.Leaves.{Read, after}
 use Rattle.wesl_text_reading.specs.FirstTokens.{behind_first, begins_sign, binary_first, unary_first}
 use Rattle.wesl_text_reading.specs.Reading.{Reader, node_of, node, any, expression, class_in, begins_post, taken, next_operator, posts, operand, go_on, whole}
 use Rattle.wesl_text_reading.proofs.Filled.{no_some, of_some, no_true, fill, parts, one, stands}
-use Rattle.wesl_text_reading.proofs.Takes.{and_parts, where_true, first_parts}
+use Rattle.wesl_text_reading.proofs.Takes.{where_true, first_parts}
 use Rattle.wesl_text_reading.proofs.KindsAgain.{kind_is, end_is}
 use Rattle.wesl_text_reading.proofs.Within.{Within, Under, within_below}
 use Rattle.wesl_text_reading.proofs.Classes.{none_on_the_right, takes_the_right, closed_right, closed_tight, takes_tight, binary_again, unary_again, never_tight}
+use Rattle.std.proofs.lemmas.Bool.{and_parts}
 
 -- what may come behind a type, and behind an operand
 abbrev pub Ends : List Token → Type 0

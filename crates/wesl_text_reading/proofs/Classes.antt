@@ -7,10 +7,7 @@ use Rattle.wesl_tree_syntax.specs.declared.expression.BinaryOperator.{BinaryOper
 use Rattle.wesl_tree_syntax.specs.declared.expression.BinaryOperator.TheVariants as binary_operator
 use Rattle.wesl_text_form.specs.Operators.{unary_symbol, binary_symbol, Class, primary, prefixed, product, sum, shift, comparison, bit_and, bit_or, bit_xor, both, either, operator_class, is_tight, takes_left, takes_right}
 use Rattle.wesl_text_reading.specs.FirstTokens.{unary_of, binary_of}
-
-pub and_parts : (x y : Bool) → (x && y) ≡ true → (x ≡ true) × (y ≡ true)
-and_parts true y h = (refl, h)
-and_parts false y h = absurd (let g : false ≡ true = h in cc)
+use Rattle.std.proofs.lemmas.Bool.{and_parts}
 
 -- a test of all classes
 abbrev pub all_classes : (Class → Bool) → Bool

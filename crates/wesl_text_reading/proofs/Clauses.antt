@@ -10,7 +10,7 @@ use Rattle.wesl_text_form.specs.Spelling.{Label, Forest, spells, followed, named
 use Rattle.wesl_text_reading.specs.FirstTokens.{begins_sign, begins_sort, begins_expression}
 use Rattle.wesl_text_reading.specs.Reading.{Reader, node_of, node, behind_attributes, begins_child, lone_default, read_selectors}
 use Rattle.wesl_text_reading.proofs.Filled.{no_some, of_some, no_true, fill, parts, one, stands, same_is}
-use Rattle.wesl_text_reading.proofs.Takes.{and_parts, chosen, first_parts}
+use Rattle.wesl_text_reading.proofs.Takes.{chosen, first_parts}
 use Rattle.wesl_text_reading.proofs.Within.{Within, within_below}
 use Rattle.wesl_text_reading.proofs.RowReads.{selector_slots}
 use Rattle.wesl_text_reading.proofs.Loops.{separate_reads}
@@ -21,6 +21,7 @@ use Rattle.wesl_text_reading.proofs.Runs.{Unopened}
 use Rattle.wesl_text_reading.proofs.KindsRead.{row_may}
 use Rattle.wesl_text_reading.proofs.Worded.{Apart, attrs_ok, behind_them}
 use Rattle.wesl_text_reading.proofs.Blocks.{Always, body_first}
+use Rattle.std.proofs.lemmas.Bool.{and_parts}
 
 -- a selector begins with `default` or with an expression
 selector_begins : (l : Label) (c : Forest) (ts us : List Token) → fill (first_slots l c (spells c) a_selector) ts ≡ Some us → begins_expression ts ≡ true

@@ -10,7 +10,7 @@ use Rattle.wesl_text_form.specs.Spelling.{Label, Forest, spells, followed, leaf_
 use Rattle.wesl_text_reading.specs.FirstTokens.{begins_sign, begins_word, begins_name, are_none, by_word, words_of_directives, declaration_label}
 use Rattle.wesl_text_reading.specs.Reading.{Reader, node_of, node, behind_attributes, begins_child, read_row, read_part}
 use Rattle.wesl_text_reading.proofs.Filled.{no_some, of_some, no_true, fill, parts}
-use Rattle.wesl_text_reading.proofs.Takes.{and_parts, chosen, where_true, first_parts}
+use Rattle.wesl_text_reading.proofs.Takes.{chosen, where_true, first_parts}
 use Rattle.wesl_text_reading.proofs.Classes.{denied}
 use Rattle.wesl_text_reading.proofs.KindsAgain.{kind_is}
 use Rattle.wesl_text_reading.proofs.Within.{Within, within_below}
@@ -25,6 +25,7 @@ use Rattle.wesl_text_reading.proofs.Worded.{Apart, behind_them, worded_ok, word_
 use Rattle.wesl_text_reading.proofs.Targets.{ReadsParted}
 use Rattle.wesl_text_reading.proofs.Blocks.{Always, semicolon_ended, body_first, own_body_ended}
 use Rattle.wesl_text_reading.proofs.SimpleWords.{Tail, declaration_row, declaration_ok, behind_reads, kind_by}
+use Rattle.std.proofs.lemmas.Bool.{and_parts}
 
 -- a declaration goes on: neither an import nor a directive begins
 abbrev pub Declares : List Token → Type 0

@@ -1,6 +1,6 @@
 -- What is read of expressions and of attributes at a number of levels is read at one more.
 use Rattle.std.proofs.Common.{◌≡◌, ◌⊎◌, ◌≤◌, ℕ, zero, suc, Bool, true, false, not, ◌&&◌, ◌||◌, if◌then◌else◌, nat_le, List, [], ◌∷◌, length, Option, Some, None, option_and_then, refl, sym as turned, inl, inr, ap, ◌∙◌, codes, bytes_eq, arith}
-use Rattle.std.proofs.lemmas.Bool.{le-leb, leb-true}
+use Rattle.std.proofs.lemmas.Bool.{and_parts, le-leb, leb-true}
 use Rattle.wesl_tree_names.specs.Path.{Text}
 use Rattle.wesl_tree_syntax.specs.Tree.{kind, at, unary, binary, end, TreeOf, before, leaf as tree_leaf, branch, present, absent, literal, call_expression, named_component, indexing, type_or_identifier}
 use Rattle.wesl_tree_syntax.specs.declared.expression.UnaryOperator.{UnaryOperator}
@@ -16,7 +16,7 @@ use Rattle.wesl_text_reading.specs.Leaves.{Read, after, where_so, read_leaf}
 use Rattle.wesl_text_reading.specs.FirstTokens.{has_attributes, begins_sort, begins_sign, behind_first, unary_first, operand_label}
 use Rattle.wesl_text_reading.specs.Reading.{Reader, node_of, and_others, all_of, separate_of, attributes_first, behind_attributes, behind_child, begins_child, begins_row, label_first, read_row, read_part, read_node, node, any, expression, class_in, next_operator, posts, operand, go_on, whole, ranked, at_level, reading}
 use Rattle.wesl_text_reading.proofs.Filled.{no_some, of_some, no_true}
-use Rattle.wesl_text_reading.proofs.Takes.{and_parts, at_rows}
+use Rattle.wesl_text_reading.proofs.Takes.{at_rows}
 use Rattle.wesl_text_reading.proofs.Operands.{type_label, call_label, argument_label}
 use Rattle.wesl_text_reading.proofs.Runs.{attribute_is}
 

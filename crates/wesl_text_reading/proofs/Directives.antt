@@ -14,7 +14,7 @@ use Rattle.wesl_text_reading.specs.Leaves.{read_leaf, words}
 use Rattle.wesl_text_reading.specs.FirstTokens.{words_of_directives, by_word, labelled, begins_sign}
 use Rattle.wesl_text_reading.specs.Reading.{Reader, node_of, node, any, read_part, ranked, at_level, reading}
 use Rattle.wesl_text_reading.proofs.Filled.{no_some, of_some, no_true, fill}
-use Rattle.wesl_text_reading.proofs.Takes.{and_parts, where_true, first_parts}
+use Rattle.wesl_text_reading.proofs.Takes.{where_true, first_parts}
 use Rattle.wesl_text_reading.proofs.KindsAgain.{kind_is}
 use Rattle.wesl_text_reading.proofs.Within.{Within, within_below}
 use Rattle.wesl_text_reading.proofs.RowReads.{RowOk, row_reads}
@@ -26,6 +26,7 @@ use Rattle.wesl_text_reading.proofs.Attributes.{word_reads, rule_reads}
 use Rattle.wesl_text_reading.proofs.Runs.{Unopened, attributes_at}
 use Rattle.wesl_text_reading.proofs.Worded.{word_behind, worded_ok}
 use Rattle.wesl_text_reading.proofs.KindsRead.{row_may}
+use Rattle.std.proofs.lemmas.Bool.{and_parts}
 
 -- ---- words with commas between, before `;`
 

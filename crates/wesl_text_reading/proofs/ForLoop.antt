@@ -9,7 +9,7 @@ use Rattle.wesl_text_reading.specs.Leaves.{Read, after}
 use Rattle.wesl_text_reading.specs.FirstTokens.{begins_sign, begins_part, begins_expression}
 use Rattle.wesl_text_reading.specs.Reading.{Reader, node_of, and_others, all_of, begins_child, begins_row, read_row, read_part}
 use Rattle.wesl_text_reading.proofs.Filled.{no_some, fill, parts}
-use Rattle.wesl_text_reading.proofs.Takes.{and_parts, chosen, where_true}
+use Rattle.wesl_text_reading.proofs.Takes.{chosen, where_true}
 use Rattle.wesl_text_reading.proofs.KindsAgain.{label_is, end_is}
 use Rattle.wesl_text_reading.proofs.Within.{Within, within_below}
 use Rattle.wesl_text_reading.proofs.RowReads.{joined, row_reads}
@@ -24,6 +24,7 @@ use Rattle.wesl_text_reading.proofs.Blocks.{Always, semicolon_ended}
 use Rattle.wesl_text_reading.proofs.SimpleWords.{Tail}
 use Rattle.wesl_text_reading.proofs.ForParts.{part_reads}
 use Rattle.wesl_text_reading.proofs.Statements.{Bodies, Statement, worded_begun}
+use Rattle.std.proofs.lemmas.Bool.{and_parts}
 
 -- the parts of `for`, from the last to the first
 abbrev behind_parts : Row

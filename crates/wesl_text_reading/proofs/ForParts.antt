@@ -16,7 +16,6 @@ use Rattle.wesl_text_reading.specs.Leaves.{Read, after, where_so}
 use Rattle.wesl_text_reading.specs.FirstTokens.{label_behind_expression, begins_part, begins_sign}
 use Rattle.wesl_text_reading.specs.Reading.{Reader, node_of, label_of_statement, read_row, read_node, read_part, without_end}
 use Rattle.wesl_text_reading.proofs.Filled.{no_some, of_some, no_true, fill}
-use Rattle.wesl_text_reading.proofs.Takes.{and_parts}
 use Rattle.wesl_text_reading.proofs.Classes.{denied}
 use Rattle.wesl_text_reading.proofs.KindsAgain.{kind_is}
 use Rattle.wesl_text_reading.proofs.Within.{Within, within_below}
@@ -29,6 +28,7 @@ use Rattle.wesl_text_reading.proofs.Targets.{ReadsParted}
 use Rattle.wesl_text_reading.proofs.Unended.{ends_with, unended_fills}
 use Rattle.wesl_text_reading.proofs.Simple.{Begun, assignment_ends, assignment_tells, target_reads, equal_reads}
 use Rattle.wesl_text_reading.proofs.SimpleWords.{Tail, tail_ends, declaration_reads, call_reads}
+use Rattle.std.proofs.lemmas.Bool.{and_parts}
 
 -- ---- a node without its last token
 

@@ -15,7 +15,7 @@ use Rattle.wesl_text_reading.specs.Leaves.{are_free, slashed, free_path, super_p
 use Rattle.wesl_text_reading.specs.FirstTokens.{begins_name, begins_sign, begins_word, begins_path}
 use Rattle.wesl_text_reading.specs.Reading.{Reader, node_of, node, any, begins_child, separate_of, read_part, ranked, at_level, reading}
 use Rattle.wesl_text_reading.proofs.Filled.{no_some, of_some, no_true, fill, parts, one, stands}
-use Rattle.wesl_text_reading.proofs.Takes.{and_parts, chosen, where_true, first_parts}
+use Rattle.wesl_text_reading.proofs.Takes.{chosen, where_true, first_parts}
 use Rattle.wesl_text_reading.proofs.KindsAgain.{kind_is, role_is, label_is}
 use Rattle.wesl_text_reading.proofs.Within.{Within, within_below}
 use Rattle.wesl_text_reading.proofs.RowReads.{RowOk, row_reads}
@@ -27,6 +27,7 @@ use Rattle.wesl_text_reading.proofs.Complete.{ReadsSort, node_from, node_by}
 use Rattle.wesl_text_reading.proofs.Attributes.{with_between, between_again, cut_filled, row_word}
 use Rattle.wesl_text_reading.proofs.Runs.{Unopened, Named, binder_reads, attributes_at}
 use Rattle.wesl_text_reading.proofs.Worded.{worded_ok}
+use Rattle.std.proofs.lemmas.Bool.{and_parts}
 
 -- ---- paths with slashes
 

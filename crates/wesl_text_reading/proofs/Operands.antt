@@ -16,11 +16,12 @@ use Rattle.wesl_text_reading.specs.Leaves.{read_leaf}
 use Rattle.wesl_text_reading.specs.FirstTokens.{begins_expression, begins_path, binary_first, unary_first, operand_label}
 use Rattle.wesl_text_reading.specs.Reading.{begins_post}
 use Rattle.wesl_text_reading.proofs.Filled.{no_some, of_some, fill, parts, one, stands}
-use Rattle.wesl_text_reading.proofs.Takes.{and_parts, chosen, where_true, first_parts}
+use Rattle.wesl_text_reading.proofs.Takes.{chosen, where_true, first_parts}
 use Rattle.wesl_text_reading.proofs.KindsAgain.{kind_is, role_is}
 use Rattle.wesl_text_reading.proofs.Types.{path_tokens, no_literal, free_no_literal}
 use Rattle.wesl_text_reading.proofs.Chains.{Closes, expression_parts, row_token}
 use Rattle.wesl_text_reading.proofs.Types.{origin_word, origin_rest}
+use Rattle.std.proofs.lemmas.Bool.{and_parts}
 
 -- the rows of a table, one after the other
 abbrev pub InRows : Rows → Kind → Row → Type 0

@@ -12,9 +12,10 @@ use Rattle.wesl_text_reading.specs.Leaves.{Read, after, where_so, read_leaf}
 use Rattle.wesl_text_reading.specs.FirstTokens.{begins_sign, behind_first}
 use Rattle.wesl_text_reading.specs.Reading.{Reader, node_of, and_others, all_of, separate_of, begins_child, begins_row, read_target, read_selectors, read_row}
 use Rattle.wesl_text_reading.proofs.Filled.{no_some, of_some, fill, parts, both, one, stands}
-use Rattle.wesl_text_reading.proofs.Takes.{and_parts, chosen, where_true}
+use Rattle.wesl_text_reading.proofs.Takes.{chosen, where_true}
 use Rattle.wesl_text_reading.proofs.KindsAgain.{label_is, end_is}
 use Rattle.wesl_text_reading.proofs.Within.{Within, within_below}
+use Rattle.std.proofs.lemmas.Bool.{and_parts}
 
 -- the slots of a target, and of selectors
 abbrev pub target_slots : Label → Forest → Slots

@@ -12,7 +12,7 @@ use Rattle.wesl_text_reading.specs.Leaves.{read_leaf}
 use Rattle.wesl_text_reading.specs.FirstTokens.{begins_sign}
 use Rattle.wesl_text_reading.specs.Reading.{Reader, node_of, node, any, all_of, begins_child, read_part, ranked, at_level, reading}
 use Rattle.wesl_text_reading.proofs.Filled.{no_some, of_some, no_true, fill, one, stands}
-use Rattle.wesl_text_reading.proofs.Takes.{and_parts, where_true, first_parts, at_rows}
+use Rattle.wesl_text_reading.proofs.Takes.{where_true, first_parts, at_rows}
 use Rattle.wesl_text_reading.proofs.KindsAgain.{kind_is, role_is}
 use Rattle.wesl_text_reading.proofs.Within.{Within, within_below}
 use Rattle.wesl_text_reading.proofs.RowReads.{RowOk}
@@ -21,6 +21,7 @@ use Rattle.wesl_text_reading.proofs.Chains.{Ends, row_token}
 use Rattle.wesl_text_reading.proofs.Operands.{only_row, leaf_first, own_first, nothing_left}
 use Rattle.wesl_text_reading.proofs.Complete.{ReadsSort, node_by, from_any, complete, type_reads, argument_reads}
 use Rattle.wesl_text_reading.proofs.Attributes.{attribute_reads}
+use Rattle.std.proofs.lemmas.Bool.{and_parts}
 
 -- no `(` comes first
 abbrev pub Unopened : List Token → Type 0

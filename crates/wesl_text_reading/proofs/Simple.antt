@@ -15,7 +15,7 @@ use Rattle.wesl_text_reading.specs.FirstTokens.{begins_sign, begins_word, behind
 use Rattle.wesl_text_reading.specs.Leaves.{after, where_so}
 use Rattle.wesl_text_reading.specs.Reading.{Reader, node_of, all_of, begins_child, behind_attributes, label_of_statement, wildcard, read_target, read_row}
 use Rattle.wesl_text_reading.proofs.Filled.{no_some, no_true, fill, parts, both, one, stands}
-use Rattle.wesl_text_reading.proofs.Takes.{and_parts, chosen, where_true}
+use Rattle.wesl_text_reading.proofs.Takes.{chosen, where_true}
 use Rattle.wesl_text_reading.proofs.Classes.{denied}
 use Rattle.wesl_text_reading.proofs.Within.{Within, within_below}
 use Rattle.wesl_text_reading.proofs.RowReads.{RowOk, row_reads, joined, target_slots}
@@ -25,6 +25,7 @@ use Rattle.wesl_text_reading.proofs.Complete.{ReadsSort}
 use Rattle.wesl_text_reading.proofs.Targets.{PartedLast, ReadsParted, parted_read, attrs_parts, target_first}
 use Rattle.wesl_text_reading.proofs.Selectors.{not_word}
 use Rattle.wesl_text_reading.proofs.Starts.{Goes, operand_goes, operand_no_at, operand_tells_none}
+use Rattle.std.proofs.lemmas.Bool.{and_parts}
 
 -- behind attributes stand tokens that tell this label, and with which statements go on
 abbrev pub Begun : (Sort → Reader) → Label → List Token → Type 0

@@ -9,17 +9,14 @@ use Rattle.wesl_text_tokens.specs.Symbols.{look_up}
 use Rattle.wesl_text_tokens.specs.Tokens.{Token, name, symbol}
 use Rattle.wesl_text_reading.specs.FirstTokens.{are_none, begins_sign, begins_word, begins_words, ends_block, words_of_statements, by_word, labelled, statement_label, behind_first}
 use Rattle.wesl_text_reading.proofs.Filled.{no_true}
-use Rattle.wesl_text_reading.proofs.Takes.{and_parts}
 use Rattle.wesl_text_reading.proofs.Classes.{denied}
 use Rattle.wesl_text_reading.proofs.Operands.{is_first_word, begins_operand}
 use Rattle.wesl_text_reading.proofs.Selectors.{not_word}
+use Rattle.std.proofs.lemmas.Bool.{and_parts, or_from}
 
 -- statements go on: no block ends, and neither `else` nor `)` comes
 abbrev pub Goes : List Token → Type 0
 Goes vs = (ends_block vs ≡ false) × (begins_word (codes "else") vs ≡ false) × (begins_sign is.ParenRight vs ≡ false)
-
-or_false : (a b : Bool) → a ≡ false → b ≡ false → (a || b) ≡ false
-or_false a b e g = ap (λ z. z || b) e ∙ g
 
 no_brace : (ts : List Token) → begins_operand ts ≡ true → (are_none ts ≡ false) × (begins_sign is.BraceRight ts ≡ false) × (begins_sign is.At ts ≡ false) × (begins_sign is.ParenRight ts ≡ false)
 no_brace [] h = absurd (no_true h)
@@ -32,8 +29,8 @@ no_brace (t ∷ ts) h = (refl, refl, refl, refl)
 pub operand_goes : (ts : List Token) → begins_operand ts ≡ true → Goes ts
 operand_goes ts h =
     let x : (are_none ts ≡ false) × (begins_sign is.BraceRight ts ≡ false) × (begins_sign is.At ts ≡ false) × (begins_sign is.ParenRight ts ≡ false) = no_brace ts h in (
-      or_false ((are_none ts || begins_sign is.BraceRight ts) || begins_word (codes "continuing") ts) (begins_words (codes "break") (codes "if") ts)
-          (or_false (are_none ts || begins_sign is.BraceRight ts) (begins_word (codes "continuing") ts) (or_false (are_none ts) (begins_sign is.BraceRight ts) x.0 x.1) (not_word (codes "continuing") refl ts h))
+      or_from ((are_none ts || begins_sign is.BraceRight ts) || begins_word (codes "continuing") ts) (begins_words (codes "break") (codes "if") ts)
+          (or_from (are_none ts || begins_sign is.BraceRight ts) (begins_word (codes "continuing") ts) (or_from (are_none ts) (begins_sign is.BraceRight ts) x.0 x.1) (not_word (codes "continuing") refl ts h))
           (ap (λ b. b && begins_word (codes "if") (behind_first ts)) (not_word (codes "break") refl ts h)),
       not_word (codes "else") refl ts h,
       x.3,

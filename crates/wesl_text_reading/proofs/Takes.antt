@@ -14,6 +14,7 @@ use Rattle.wesl_text_form.specs.Spelling.{label_at, without_last}
 use Rattle.wesl_tree_syntax.specs.Tree.{present, absent, list, expression_node, statement_node, attribute_node, member_node, import_node, directive_node, declaration_node}
 use Rattle.wesl_text_tokens.specs.declared.symbol.Symbol.TheVariants as symbol_type
 use Rattle.wesl_text_reading.proofs.Filled.{no_some, of_some, no_true, fill, parts, one, token_lt, alone_lt, fill_le}
+use Rattle.std.proofs.lemmas.Bool.{and_parts}
 
 -- whether a leaf of this kind takes a token: of those that stand alone in a row
 abbrev pub leaf_takes : Leaf → Bool
@@ -47,10 +48,6 @@ all_rows q [] = true
 all_rows q (p ∷ ps) = q p.1 && all_rows q ps
 
 -- ---- what holds where slots are filled
-
-pub and_parts : (x y : Bool) → (x && y) ≡ true → (x ≡ true) × (y ≡ true)
-and_parts true y h = (refl, h)
-and_parts false y h = absurd (no_true h)
 
 -- one of two
 pub chosen : (b : Bool) (x y : Slots) (ts us : List Token) → fill (if b then x else y) ts ≡ Some us → ((b ≡ true) × (fill x ts ≡ Some us)) ⊎ ((b ≡ false) × (fill y ts ≡ Some us))

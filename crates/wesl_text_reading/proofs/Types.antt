@@ -13,7 +13,8 @@ use Rattle.wesl_text_form.specs.Spelling.{Label, Forest, named, signed, stepped,
 use Rattle.wesl_text_reading.specs.Leaves.{are_free, step_words, free_path, super_path, path_of, where_path, read_leaf}
 use Rattle.wesl_text_reading.specs.FirstTokens.{begins_name, begins_sign, behind_first}
 use Rattle.wesl_text_reading.proofs.Filled.{no_some, of_some, no_true, fill, stands}
-use Rattle.wesl_text_reading.proofs.Takes.{and_parts, where_true}
+use Rattle.wesl_text_reading.proofs.Takes.{where_true}
+use Rattle.std.proofs.lemmas.Bool.{and_parts}
 
 -- ---- names that may be used
 

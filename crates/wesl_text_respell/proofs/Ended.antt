@@ -10,7 +10,8 @@ use Rattle.wesl_text_form.specs.Operators.{class_of, is_tight}
 use Rattle.wesl_text_form.specs.Productions.{Sort, an_expression, a_bare_expression, an_attribute, a_space, an_access, a_member, a_declaration, an_if, an_else_if, an_else, a_body, a_clause, a_continuing, a_break_if, a_selector, an_import, a_bare_import, a_directive, a_bare_directive, a_statement, a_bare_statement, Row, nothing, sym, may_sym, says, opens, closes, own, leaf, run, commas, optional, inside, target, selectors, unended, arrow, rows_of, row_of, spanned}
 use Rattle.wesl_text_form.specs.Spelling.{Label, Forest, Slots, spells, followed, named, signed, trailing, leaf_slots, first_slots, row_slots, row_of_none, fits, stands_as, label_at, is_kind, is_wildcard, leads_to_place, is_lone_default, is_end, is_absent_at, without_last}
 use Rattle.wesl_text_reading.proofs.Filled.{no_some, of_some, no_true}
-use Rattle.wesl_text_reading.proofs.Takes.{and_parts, all_rows, at_rows}
+use Rattle.wesl_text_reading.proofs.Takes.{all_rows, at_rows}
+use Rattle.std.proofs.lemmas.Bool.{and_parts}
 
 -- whether no list can be open behind a token, where it is told whether one can before it
 abbrev pub closed_by : Bool → Token → Bool

@@ -1,6 +1,6 @@
 -- Within the brackets of lists that are found, no `<` that opens one of them is lost.
 use Rattle.std.proofs.Common.{◌≡◌, ◌≤◌, ◌<◌, ℕ, suc, ◌-◌, Bool, true, false, ◌&&◌, ◌||◌, ◌==◌, if◌then◌else◌, List, [], ◌∷◌, refl, sym as turned, inl, ap, ap₂, ◌∙◌, codes, bytes_eq, nat_lt, arith}
-use Rattle.std.proofs.lemmas.Bool.{ne_eqb, eq-eqb}
+use Rattle.std.proofs.lemmas.Bool.{eq-eqb, ne_eqb, or_right}
 use Rattle.wesl_tree_names.specs.Path.{Text}
 use Rattle.wesl_text_tokens.specs.Characters.{is_one_of}
 use Rattle.wesl_text_tokens.specs.Pieces.{What, a_name, a_number, a_sign, Bit}
@@ -9,10 +9,6 @@ use Rattle.wesl_text_reading.proofs.Filled.{no_true}
 use Rattle.wesl_text_writable.proofs.Fresh.{either_is, numbers, LacksOpen, LacksClosed, Before, step_lacks, step_open, before_step}
 use Rattle.wesl_text_writable.proofs.Grouped.{number_behind, NoBrackets}
 use Rattle.wesl_text_respell.proofs.Pending.{Sorted, IsSorted, step_sorted, step_keeps}
-
-or_right : (a b : Bool) → b ≡ true → (a || b) ≡ true
-or_right true b h = refl
-or_right false b h = h
 
 itself : (n : ℕ) (ns : List ℕ) → is_one_of (n ∷ ns) n ≡ true
 itself n ns = ap (λ z. z || is_one_of ns n) (eq-eqb n n refl)

@@ -17,9 +17,10 @@ use Rattle.wesl_text_form.specs.Operators.{unary_symbol, binary_symbol}
 use Rattle.wesl_text_form.specs.Productions.{Sort, an_expression, a_bare_expression, a_bare_statement, a_statement, an_attribute, a_member, an_import, a_directive, a_declaration, a_space, an_access, a_call, a_type, an_argument, Leaf, an_ident, a_name, a_literal, a_path, Row, nothing, sym, may_sym, says, opens, closes, own, leaf, commas, optional, rows_of, row_of, spanned}
 use Rattle.wesl_text_form.specs.Spelling.{Label, Forest, Slots, spells, followed, provided, named, signed, stepped, trailing, origin_slots, leaf_slots, first_slots, row_slots, row_of_none, with_comma, fits, stands_as, is_kind, is_end}
 use Rattle.wesl_text_reading.proofs.Filled.{no_some, of_some, no_true}
-use Rattle.wesl_text_reading.proofs.Takes.{and_parts, all_rows, at_rows}
+use Rattle.wesl_text_reading.proofs.Takes.{all_rows, at_rows}
 use Rattle.wesl_text_respell.proofs.Rests.{Rest, rests, inside, rest_step, rest_behind}
 use Rattle.wesl_text_respell.proofs.Moved.{on}
+use Rattle.std.proofs.lemmas.Bool.{and_parts}
 
 -- ---- what is told behind slots
 

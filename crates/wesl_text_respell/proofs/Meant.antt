@@ -10,13 +10,13 @@ use Rattle.wesl_text_tokens.proofs.SymbolTexts.{each}
 use Rattle.wesl_text_form.specs.Slots.{Slot, must, may, alone, fewest}
 use Rattle.wesl_text_form.specs.Says.{token_bits, bits_apart}
 use Rattle.wesl_text_reading.proofs.Filled.{no_true}
-use Rattle.wesl_text_reading.proofs.Takes.{and_parts}
 use Rattle.wesl_text_writable.proofs.Signs.{is_piece, lone, meet, BitsFit}
 use Rattle.wesl_text_writable.proofs.Grouped.{number_behind, Grouped, grouped}
 use Rattle.wesl_text_writable.proofs.KnownApart.{known_apart}
 use Rattle.wesl_text_writable.proofs.MadeApart.{AllBracketed, AreMeant}
 use Rattle.wesl_text_writable.proofs.LeftOut.{left_out, forgotten_unseen, name_forgotten, unmarked_first}
 use Rattle.wesl_text_respell.proofs.Related.{IsLike, none, as_is, other, fewer}
+use Rattle.std.proofs.lemmas.Bool.{and_parts}
 
 -- ---- another name
 

@@ -10,10 +10,11 @@ use Rattle.wesl_text_form.specs.Operators.{class_of, is_tight}
 use Rattle.wesl_text_form.specs.Productions.{Sort, an_expression, a_bare_expression, an_attribute, a_bare_attribute, a_space, an_access, an_import, a_bare_import, a_directive, a_bare_directive, a_member, a_bare_member, a_statement, a_bare_statement, a_declaration, a_bare_declaration, a_selector, Leaf, Row, nothing, sym, may_sym, says, opens, closes, own, leaf, run, commas, optional, inside, target, selectors, unended, arrow, rows_of, row_of, spanned}
 use Rattle.wesl_text_form.specs.Spelling.{Label, Forest, Slots, spells, followed, named, signed, trailing, leaf_slots, first_slots, row_slots, row_of_none, with_comma, label_at, is_kind, is_wildcard, leads_to_place, is_lone_default, is_end, is_absent_at, without_last}
 use Rattle.wesl_text_reading.proofs.Filled.{no_some, of_some, no_true}
-use Rattle.wesl_text_reading.proofs.Takes.{and_parts, at_rows}
+use Rattle.wesl_text_reading.proofs.Takes.{at_rows}
 use Rattle.wesl_text_respell.specs.Respelled.{IsRespelled, ends, same, renamed, unqualified, discards}
 use Rattle.wesl_text_respell.proofs.Ended.{nodes_are_ended}
 use Rattle.wesl_text_respell.proofs.Related.{none, like_self, Follows, follows_self, follows_joined, follows_trailing, follows_comma, follows_cut, follows_either}
+use Rattle.std.proofs.lemmas.Bool.{and_parts}
 
 -- ---- which rows
 

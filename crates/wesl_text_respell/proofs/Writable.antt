@@ -5,13 +5,13 @@ use Rattle.wesl_text_form.specs.Slots.{Slot, same_token, fewest}
 use Rattle.wesl_text_form.specs.Spelling.{Slots, slots, slots_as, unit_row}
 use Rattle.wesl_text_form.specs.Says.{are_read_as_meant, bits_apart, same_tokens, as_meant}
 use Rattle.wesl_text_reading.proofs.Filled.{no_true, same_is}
-use Rattle.wesl_text_reading.proofs.Takes.{and_parts}
 use Rattle.wesl_text_writable.proofs.Clear.{same_self}
 use Rattle.wesl_text_writable.proofs.MadeApart.{AreMeant, meant_apart}
 use Rattle.wesl_text_respell.specs.Laws.{RespelledUnits, RespelledTrees}
 use Rattle.wesl_text_respell.proofs.Related.{Follows}
 use Rattle.wesl_text_respell.proofs.Follow.{follow}
 use Rattle.wesl_text_respell.proofs.Meant.{meant_like, apart_meant}
+use Rattle.std.proofs.lemmas.Bool.{and_parts}
 
 -- ---- tokens that are read as meant
 

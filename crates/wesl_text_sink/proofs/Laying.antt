@@ -8,7 +8,7 @@ use Rattle.wesl_text_print.proofs.Lists.{all_slots}
 use Rattle.std.specs.Prelude.{string_bytes}
 use Rattle.std.specs.Prelude.{Result, Ok, Err, OnOk, is_err, is_some}
 use Rattle.std.specs.Str.{is_utf8}
-use Rattle.std.proofs.lemmas.Bool.{and_parts}
+use Rattle.std.proofs.lemmas.Bool.{and_from, and_parts}
 use Rattle.std.proofs.lemmas.Str.{is_utf8-from_IsUtf8}
 use Rattle.wesl_tree_names.specs.Path.{Text}
 use Rattle.wesl_text_tokens.specs.Tokens.{Token}
@@ -28,9 +28,6 @@ use Rattle.wesl_text_sink.specs.declared.fault.PrintFault.{PrintFault}
 use Rattle.wesl_text_sink.specs.Layout.{Laid, are_apart, are_blanks, are_laid, is_spelled, kind_of, last_kind, layout, mark_at, marks_from, token_by, token_text}
 use Rattle.wesl_text_sink.specs.Filling.{Fills, Lays, Shows, rule_slots, slashed_name, slashed_slots}
 use Rattle.wesl_text_sink.specs.Words.{is_refusal}
-
-both : (x y : Bool) → x ≡ true → y ≡ true → (x && y) ≡ true
-both x y e g = ap (λ z. z && y) e ∙ g
 
 -- ---- a token by its kind
 
@@ -83,11 +80,11 @@ marks_more at (k ∷ ls) l =
     (marks_more next ls l ∙ ap (λ (n : ℕ). marks_from next ls ++ mark_at n l.blanks (kind_of l.token) (token_text l.token) ∷ []) same)
 
 laid_more : (before : Option Kind) (ls : List Laid) (l : Laid) → are_laid before ls ≡ true → are_blanks l.blanks ≡ true → is_spelled l.token ≡ true → are_apart (last_laid before ls) l.blanks (kind_of l.token) ≡ true → are_laid before (ls ++ l ∷ []) ≡ true
-laid_more before [] l h b s a = both (are_blanks l.blanks && is_spelled l.token) _ (both (are_blanks l.blanks) (is_spelled l.token) b s) (both (are_apart before l.blanks (kind_of l.token)) true a refl)
+laid_more before [] l h b s a = and_from (are_blanks l.blanks && is_spelled l.token) _ (and_from (are_blanks l.blanks) (is_spelled l.token) b s) (and_from (are_apart before l.blanks (kind_of l.token)) true a refl)
 laid_more before (k ∷ ls) l h b s a =
     let x : ((are_blanks k.blanks && is_spelled k.token) ≡ true) × ((are_apart before k.blanks (kind_of k.token) && are_laid (Some (kind_of k.token)) ls) ≡ true) = and_parts _ _ h in
     let y : (are_apart before k.blanks (kind_of k.token) ≡ true) × (are_laid (Some (kind_of k.token)) ls ≡ true) = and_parts _ _ x.1 in
-    both (are_blanks k.blanks && is_spelled k.token) _ x.0 (both (are_apart before k.blanks (kind_of k.token)) (are_laid (Some (kind_of k.token)) (ls ++ l ∷ [])) y.0 (laid_more (Some (kind_of k.token)) ls l y.1 b s a))
+    and_from (are_blanks k.blanks && is_spelled k.token) _ x.0 (and_from (are_apart before k.blanks (kind_of k.token)) (are_laid (Some (kind_of k.token)) (ls ++ l ∷ [])) y.0 (laid_more (Some (kind_of k.token)) ls l y.1 b s a))
 
 abbrev laid_by : Text → Kind → Text → Laid
 laid_by b k t = record { blanks = b; token = token_by k t }
@@ -225,7 +222,7 @@ lengths_differ (t ∷ ts) (u ∷ us) h = by (same_token t u) (lengths_differ ts 
   by true g = g
   by false g = refl
 
--- as many of both where they are one
+-- as many of and_from where they are one
 pub not_as_many : (t : Text) (ps : List PlacedToken) (ms : List Mark) → (length ps ≡ length ms → ⊥) → false ≡ same_tokens (map (λ p. token_of p.token) ps) (tokens_at t ms)
 not_as_many t ps ms h = lengths_differ (map (λ p. token_of p.token) ps) (tokens_at t ms) (λ e. h (sym (length-map ps (λ p. token_of p.token)) ∙ e ∙ length-map ms (token_at t)))
 

@@ -1,6 +1,6 @@
 -- The last of the marks, and blanks behind blanks.
-use Rattle.std.proofs.Common.{◌≡◌, ◌-◌, ◌<◌, Bool, true, false, ◌&&◌, List, [], ◌∷◌, ◌++◌, length, get_or, Option, Some, refl, ap, sym, ◌∙◌, append_assoc, arith}
-use Rattle.std.proofs.lemmas.Bool.{and_parts}
+use Rattle.std.proofs.Common.{◌≡◌, ◌-◌, ◌<◌, true, false, List, [], ◌∷◌, ◌++◌, length, get_or, Option, Some, refl, ap, sym, ◌∙◌, append_assoc, arith}
+use Rattle.std.proofs.lemmas.Bool.{and_from, and_parts}
 use Rattle.wesl_tree_base.specs.Pieces.{is_empty}
 use Rattle.wesl_tree_names.specs.Path.{Text}
 use Rattle.wesl_text_tokens.specs.Characters.{is_one_of}
@@ -25,14 +25,11 @@ last_marked (n ∷ ms) m l h =
 pub apart_touching : (ms : List Mark) (m : Mark) (k : Kind) → last_kind ms ≡ Some m.kind → may_touch m.kind k ≡ true → are_apart (last_kind ms) [] k ≡ true
 apart_touching ms m k e h = ap (λ (o : Option Kind). are_apart o [] k) e ∙ h
 
-both_true : (x y : Bool) → x ≡ true → y ≡ true → (x && y) ≡ true
-both_true x y e g = ap (λ z. z && y) e ∙ g
-
 pub blanks_both : (xs ys : Text) → are_blanks xs ≡ true → are_blanks ys ≡ true → are_blanks (xs ++ ys) ≡ true
 blanks_both [] ys h g = g
 blanks_both (x ∷ xs) ys h g =
     let p : (is_one_of (32 ∷ 10 ∷ []) x ≡ true) × (are_blanks xs ≡ true) = and_parts _ _ h in
-    both_true (is_one_of (32 ∷ 10 ∷ []) x) (are_blanks (xs ++ ys)) p.0 (blanks_both xs ys p.1 g)
+    and_from (is_one_of (32 ∷ 10 ∷ []) x) (are_blanks (xs ++ ys)) p.0 (blanks_both xs ys p.1 g)
 
 some_both : (xs ys : Text) → is_empty xs ≡ false → is_empty (xs ++ ys) ≡ false
 some_both [] ys h = let z : is_empty ys ≡ false = absurd (cc h) in z

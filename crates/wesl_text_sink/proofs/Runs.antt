@@ -1,6 +1,6 @@
 -- Characters that are read as one name or one number.
 use Rattle.std.proofs.Common.{◌≡◌, ◌⊎◌, ℕ, ◌+◌, ◌<◌, ◌≤◌, Bool, true, false, ◌&&◌, ◌||◌, ◌==◌, nat_lt, nat_le, if◌then◌else◌, List, [], ◌∷◌, ◌++◌, length, Option, Some, None, Ok, IsUtf8, refl, sym as turned, inl, inr, ap, ◌∙◌, subst, codes, append-nil, append_assoc, length-append, arith}
-use Rattle.std.proofs.lemmas.Bool.{false≢true, and_parts}
+use Rattle.std.proofs.lemmas.Bool.{and_from, and_parts, false≢true}
 use Rattle.std.proofs.lemmas.Bool.Decides.{leb_tells}
 use Rattle.std.proofs.lemmas.Slice.Eq.{bytes_eq-Decides}
 use Rattle.std.proofs.lemmas.Str.{scalars-chars, encodes-append, encode_ascii, length-encode, len_utf8_ascii}
@@ -17,9 +17,6 @@ use Rattle.wesl_text_form.specs.Names.{is_alone, is_number, is_word}
 use Rattle.wesl_text_sink.specs.Touching.{first_of}
 use Rattle.wesl_text_reading.proofs.Filled.{no_some}
 use Rattle.wesl_text_sound.proofs.TokensHold.{Digits, AllHold, Characters, tokens_hold}
-
-pub and_both : (x y : Bool) → x ≡ true → y ≡ true → (x && y) ≡ true
-and_both x y e g = ap (λ z. z && y) e ∙ g
 
 -- ---- characters that are read in a mode
 
@@ -62,7 +59,7 @@ bytes_length c = turned (length-encode c) ∙ ap length (turned (bytes_of_is c))
 
 scalars_and : (cs ds : List ℕ) → scalars cs ≡ true → scalars ds ≡ true → scalars (cs ++ ds) ≡ true
 scalars_and [] ds h g = g
-scalars_and (c ∷ cs) ds h g = let x : (scalar c ≡ true) × (scalars cs ≡ true) = and_parts (scalar c) (scalars cs) h in and_both (scalar c) (scalars (cs ++ ds)) x.0 (scalars_and cs ds x.1 g)
+scalars_and (c ∷ cs) ds h g = let x : (scalar c ≡ true) × (scalars cs ≡ true) = and_parts (scalar c) (scalars cs) h in and_from (scalar c) (scalars (cs ++ ds)) x.0 (scalars_and cs ds x.1 g)
 
 first_stays : (cs ds : List ℕ) → begins_name (first_of cs) ≡ true → begins_name (first_of (cs ++ ds)) ≡ true
 first_stays [] ds h = absurd (false≢true h)
@@ -71,7 +68,7 @@ first_stays (c ∷ cs) ds h = h
 name_begins : (c : ℕ) → IsCharacter c → ((at : ℕ) → begun at c ≡ Ok (in_name at (bytes_of c))) → begins_name c ≡ true → NameRuns (bytes_of c)
 name_begins c k b h = record {
   characters = c ∷ [];
-  are_scalars = and_both (scalar c) true k refl;
+  are_scalars = and_from (scalar c) true k refl;
   spell = one_encoded c;
   run = run_one c (length (bytes_of c)) (λ at. in_name at (bytes_of c)) (bytes_length c) b;
   begin = h;
@@ -82,7 +79,7 @@ name_goes t c k p h =
     let wide : length t + len_utf8 c ≡ length (t ++ bytes_of c) = omega (arith, bytes_length c, length-append t (bytes_of c)) in
     record {
       characters = p.characters ++ c ∷ [];
-      are_scalars = scalars_and p.characters (c ∷ []) p.are_scalars (and_both (scalar c) true k refl);
+      are_scalars = scalars_and p.characters (c ∷ []) p.are_scalars (and_from (scalar c) true k refl);
       spell = encodes-append p.characters (c ∷ []) ∙ (ap (λ z. z ++ encodes (c ∷ [])) p.spell ∙ ap (λ z. t ++ z) (one_encoded c));
       run = run_more p.characters (length t) (length (t ++ bytes_of c)) (λ at. in_name at t) (λ at. in_name at (t ++ bytes_of c)) c wide (λ at fin. ap (λ b. if b then on (in_name at (t ++ bytes_of c)) else ended (a_name t) at fin c) h) p.run;
       begin = first_stays p.characters (c ∷ []) p.begin;
@@ -105,7 +102,7 @@ low_encoded : (c : ℕ) → c < 128 → encodes (c ∷ []) ≡ c ∷ []
 low_encoded c l = append-nil (encode c) ∙ encode_ascii c l
 
 low_scalars : (c : ℕ) → c < 128 → scalars (c ∷ []) ≡ true
-low_scalars c l = and_both (scalar c) true (low_scalar c (omega arith)) refl
+low_scalars c l = and_from (scalar c) true (low_scalar c (omega arith)) refl
 
 -- ---- a number goes on with low characters alone
 

@@ -1,7 +1,7 @@
 -- The names of what is printed for a tree are words, and its numbers are numbers.
 use Rattle.std.proofs.Common.{◌≡◌, zero, suc, Bool, true, false, not, ◌&&◌, if◌then◌else◌, List, [], ◌∷◌, ◌++◌, length, Option, Some, None, option_map, option_and_then, refl, sym as turned, ap, ◌∙◌, codes, nat_le}
 use Rattle.std.specs.Str.{chars}
-use Rattle.std.proofs.lemmas.Bool.{and_parts}
+use Rattle.std.proofs.lemmas.Bool.{and_from, and_parts}
 use Rattle.wesl_tree_base.specs.Pieces.{cut, slash, supers}
 use Rattle.wesl_tree_names.specs.Path.{Text, Origin, absolute, relative, from_package}
 use Rattle.wesl_tree_syntax.specs.Tree.{Kind, kind, at, ident, text, texts, truth, path, unary, binary, assignment, space, access, end, tree, present, absent, list, expression_node, statement_node, attribute_node, member_node, import_node, directive_node, declaration_node}
@@ -41,12 +41,9 @@ abbrev are_own : Slots → Bool
 are_own None = true
 are_own (Some ss) = all_own ss
 
-both : (x y : Bool) → x ≡ true → y ≡ true → (x && y) ≡ true
-both x y e g = ap (λ z. z && y) e ∙ g
-
 own_joined : (ss us : List Slot) → all_own ss ≡ true → all_own us ≡ true → all_own (ss ++ us) ≡ true
 own_joined [] us h g = g
-own_joined (s ∷ ss) us h g = let x : (is_own s ≡ true) × (all_own ss ≡ true) = and_parts _ _ h in both (is_own s) (all_own (ss ++ us)) x.0 (own_joined ss us x.1 g)
+own_joined (s ∷ ss) us h g = let x : (is_own s ≡ true) × (all_own ss ≡ true) = and_parts _ _ h in and_from (is_own s) (all_own (ss ++ us)) x.0 (own_joined ss us x.1 g)
 
 own_followed : (a c : Slots) → are_own a ≡ true → are_own c ≡ true → are_own (followed a c) ≡ true
 own_followed None c h g = refl
@@ -69,7 +66,7 @@ own_trailing (Some (s ∷ ss)) h = own_joined (s ∷ ss) (may (symbol is.Comma) 
 all_but_last : (ss : List Slot) → all_own ss ≡ true → all_own (without_last ss) ≡ true
 all_but_last [] h = refl
 all_but_last (s ∷ []) h = refl
-all_but_last (s ∷ t ∷ ts) h = let x : (is_own s ≡ true) × (all_own (t ∷ ts) ≡ true) = and_parts _ _ h in both (is_own s) (all_own (without_last (t ∷ ts))) x.0 (all_but_last (t ∷ ts) x.1)
+all_but_last (s ∷ t ∷ ts) h = let x : (is_own s ≡ true) × (all_own (t ∷ ts) ≡ true) = and_parts _ _ h in and_from (is_own s) (all_own (without_last (t ∷ ts))) x.0 (all_but_last (t ∷ ts) x.1)
 
 own_but_last : (a : Slots) → are_own a ≡ true → are_own (option_map without_last a) ≡ true
 own_but_last None h = refl
@@ -141,22 +138,22 @@ rows_say_words s l r h = absurd (no_some r h)
 -- ---- leaves
 
 word_of_name : (t : Text) → is_name t ≡ true → all_own (named t ∷ []) ≡ true
-word_of_name t h = both (is_word t) true (and_parts (is_word t) (is_free t) h).0 refl
+word_of_name t h = and_from (is_word t) true (and_parts (is_word t) (is_free t) h).0 refl
 
 words_of_names : (ts : List Text) → are_names ts ≡ true → are_words ts ≡ true
 words_of_names [] h = refl
 words_of_names (t ∷ ts) h =
     let x : (is_name t ≡ true) × (are_names ts ≡ true) = and_parts _ _ h in
-    both (is_word t) (are_words ts) (and_parts (is_word t) (is_free t) x.0).0 (words_of_names ts x.1)
+    and_from (is_word t) (are_words ts) (and_parts (is_word t) (is_free t) x.0).0 (words_of_names ts x.1)
 
 parted_own : (s : Symbol) (ts : List Text) → are_words ts ≡ true → all_own (parted s ts) ≡ true
 parted_own s [] h = refl
 parted_own s (t ∷ []) h = h
-parted_own s (t ∷ u ∷ us) h = let x : (is_word t ≡ true) × (are_words (u ∷ us) ≡ true) = and_parts _ _ h in both (is_word t) (all_own (parted s (u ∷ us))) x.0 (parted_own s (u ∷ us) x.1)
+parted_own s (t ∷ u ∷ us) h = let x : (is_word t ≡ true) × (are_words (u ∷ us) ≡ true) = and_parts _ _ h in and_from (is_word t) (all_own (parted s (u ∷ us))) x.0 (parted_own s (u ∷ us) x.1)
 
 stepped_own : (ts : List Text) → are_words ts ≡ true → all_own (stepped ts) ≡ true
 stepped_own [] h = refl
-stepped_own (t ∷ ts) h = let x : (is_word t ≡ true) × (are_words ts ≡ true) = and_parts _ _ h in both (is_word t) (all_own (stepped ts)) x.0 (stepped_own ts x.1)
+stepped_own (t ∷ ts) h = let x : (is_word t ≡ true) × (are_words ts ≡ true) = and_parts _ _ h in and_from (is_word t) (all_own (stepped ts)) x.0 (stepped_own ts x.1)
 
 super_is_word : is_word (codes "super") ≡ true
 unfolding chars
@@ -164,7 +161,7 @@ super_is_word = refl
 
 supers_are_words : (n : _) → are_words (supers n) ≡ true
 supers_are_words zero = refl
-supers_are_words (suc n) = both (is_word (codes "super")) (are_words (supers n)) super_is_word (supers_are_words n)
+supers_are_words (suc n) = and_from (is_word (codes "super")) (are_words (supers n)) super_is_word (supers_are_words n)
 
 package_own : (slashes : Bool) (p : Text) → is_origin slashes (from_package p) ≡ true → are_words (package_words slashes p) ≡ true
 package_own true p h = words_of_names (cut slash p) h
@@ -186,10 +183,10 @@ leaf_own : (f : Leaf) (l : Label) (o : Forest) → are_own (leaf_slots f l o) �
 leaf_own (an_ident r) (ident q t) o = own_provided (same_role r q && is_name t) (named t ∷ []) (λ h. word_of_name t (and_parts _ _ h).1)
 leaf_own an_item (ident q t) o = own_provided (same_role (item_role o) q && is_name t) (named t ∷ []) (λ h. word_of_name t (and_parts _ _ h).1)
 leaf_own a_name (text t) o = own_provided (is_name t) (named t ∷ []) (λ h. word_of_name t h)
-leaf_own a_word (text t) o = own_provided (is_word t) (named t ∷ []) (λ h. both (is_word t) true h refl)
-leaf_own a_custom (text t) o = own_provided (is_word t && not (is_among known_attributes t)) (named t ∷ []) (λ h. both (is_word t) true (and_parts _ _ h).0 refl)
-leaf_own a_literal (truth b) o = both (is_word (if b then codes "true" else codes "false")) true (truth_own b) refl
-leaf_own a_literal (text t) o = own_provided (is_number t) (must (number t) ∷ []) (λ h. both (is_number t) true h refl)
+leaf_own a_word (text t) o = own_provided (is_word t) (named t ∷ []) (λ h. and_from (is_word t) true h refl)
+leaf_own a_custom (text t) o = own_provided (is_word t && not (is_among known_attributes t)) (named t ∷ []) (λ h. and_from (is_word t) true (and_parts _ _ h).0 refl)
+leaf_own a_literal (truth b) o = and_from (is_word (if b then codes "true" else codes "false")) true (truth_own b) refl
+leaf_own a_literal (text t) o = own_provided (is_number t) (must (number t) ∷ []) (λ h. and_from (is_number t) true h refl)
 leaf_own a_rule (text t) o = own_provided (are_words (cut dot t) && is_one_or_two (length (cut dot t))) (parted is.Period (cut dot t)) (λ h. parted_own is.Period (cut dot t) (and_parts _ _ h).0)
 leaf_own some_words (texts ts) o = own_provided (are_words ts && nat_le 1 (length ts)) (trailing (parted is.Comma ts)) (λ h. own_trailing (Some (parted is.Comma ts)) (parted_own is.Comma ts (and_parts _ _ h).0))
 leaf_own one_or_two (texts ts) o = own_provided (are_words ts && is_one_or_two (length ts)) (trailing (parted is.Comma ts)) (λ h. own_trailing (Some (parted is.Comma ts)) (parted_own is.Comma ts (and_parts _ _ h).0))
@@ -210,7 +207,7 @@ none_own : (r : Row) → says_words r ≡ true → are_own (row_of_none r) ≡ t
 none_own nothing h = refl
 none_own (sym s row) h = own_followed (Some (signed s ∷ [])) (row_of_none row) refl (none_own row h)
 none_own (may_sym s row) h = own_followed (Some (may (symbol s) ∷ [])) (row_of_none row) refl (none_own row h)
-none_own (says w row) h = let x : (is_word w ≡ true) × (says_words row ≡ true) = and_parts _ _ h in own_followed (Some (named w ∷ [])) (row_of_none row) (both (is_word w) true x.0 refl) (none_own row x.1)
+none_own (says w row) h = let x : (is_word w ≡ true) × (says_words row ≡ true) = and_parts _ _ h in own_followed (Some (named w ∷ [])) (row_of_none row) (and_from (is_word w) true x.0 refl) (none_own row x.1)
 none_own (opens row) h = own_followed (Some (must open_list ∷ [])) (row_of_none row) refl (none_own row h)
 none_own (closes row) h = own_followed (Some (must close_list ∷ [])) (row_of_none row) refl (none_own row h)
 none_own r h = refl
@@ -247,7 +244,7 @@ module _ (l : Label) (c o : Forest) (below : TreesOwn c) (later : TreesOwn o) wh
   row_own nothing h = refl
   row_own (sym s row) h = own_followed (Some (signed s ∷ [])) (row_slots l c o (spells c) (spells o) row) refl (row_own row h)
   row_own (may_sym s row) h = own_followed (Some (may (symbol s) ∷ [])) (row_slots l c o (spells c) (spells o) row) refl (row_own row h)
-  row_own (says w row) h = let x : (is_word w ≡ true) × (says_words row ≡ true) = and_parts _ _ h in own_followed (Some (named w ∷ [])) (row_slots l c o (spells c) (spells o) row) (both (is_word w) true x.0 refl) (row_own row x.1)
+  row_own (says w row) h = let x : (is_word w ≡ true) × (says_words row ≡ true) = and_parts _ _ h in own_followed (Some (named w ∷ [])) (row_slots l c o (spells c) (spells o) row) (and_from (is_word w) true x.0 refl) (row_own row x.1)
   row_own (opens row) h = own_followed (Some (must open_list ∷ [])) (row_slots l c o (spells c) (spells o) row) refl (row_own row h)
   row_own (closes row) h = own_followed (Some (must close_list ∷ [])) (row_slots l c o (spells c) (spells o) row) refl (row_own row h)
   row_own (own s row) h = own_followed (first_slots l c (spells c) s) ((spells o).row row) (first_own s) (later.row row h)
@@ -266,7 +263,7 @@ module _ (l : Label) (c o : Forest) (below : TreesOwn c) (later : TreesOwn o) wh
   row_own (target row) h =
       own_either (is_wildcard l c) (followed (Some (named (codes "_") ∷ [])) ((spells o).row row))
       (if is_tight (class_of (label_at 0 c)) && leads_to_place c then followed (first_slots l c (spells c) an_expression) ((spells o).row row) else None)
-      (own_followed (Some (named (codes "_") ∷ [])) ((spells o).row row) (both (is_word (codes "_")) true wild_is_word refl) (later.row row h))
+      (own_followed (Some (named (codes "_") ∷ [])) ((spells o).row row) (and_from (is_word (codes "_")) true wild_is_word refl) (later.row row h))
       (own_either (is_tight (class_of (label_at 0 c)) && leads_to_place c) (followed (first_slots l c (spells c) an_expression) ((spells o).row row)) None
       (own_followed (first_slots l c (spells c) an_expression) ((spells o).row row) (first_own an_expression) (later.row row h)) refl)
   row_own (selectors row) h =
@@ -275,7 +272,7 @@ module _ (l : Label) (c o : Forest) (below : TreesOwn c) (later : TreesOwn o) wh
       refl
       (own_either (is_lone_default c) (followed (Some (alone ∷ [])) ((spells o).row row)) (followed (Some (named (codes "case") ∷ [])) (followed (option_map trailing ((spells c).separate a_selector)) ((spells o).row row)))
       (own_followed (Some (alone ∷ [])) ((spells o).row row) refl (later.row row h))
-      (own_followed (Some (named (codes "case") ∷ [])) (followed (option_map trailing ((spells c).separate a_selector)) ((spells o).row row)) (both (is_word (codes "case")) true case_is_word refl)
+      (own_followed (Some (named (codes "case") ∷ [])) (followed (option_map trailing ((spells c).separate a_selector)) ((spells o).row row)) (and_from (is_word (codes "case")) true case_is_word refl)
       (own_followed (option_map trailing ((spells c).separate a_selector)) ((spells o).row row) (own_trailing ((spells c).separate a_selector) (below.separate a_selector)) (later.row row h))))
   row_own (unended s row) h = own_followed (option_map without_last (first_slots l c (spells c) s)) ((spells o).row row) (own_but_last (first_slots l c (spells c) s) (first_own s)) (later.row row h)
   row_own (arrow row) h =

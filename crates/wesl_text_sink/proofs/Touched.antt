@@ -14,6 +14,7 @@ use Rattle.wesl_text_sink.specs.Layout.{Laid, are_apart, are_blanks, are_laid, i
 use Rattle.wesl_text_sink.specs.Touching.{first_of, last_of, may_touch, runs_on}
 use Rattle.wesl_text_sink.proofs.Pieces.{BeginsAs, Follows, Reads, goes_no_number, is_single}
 use Rattle.wesl_text_sink.proofs.Runs.{begins_number}
+use mathlib.Core.Bool.{and-false}
 
 -- ---- tests of characters
 
@@ -27,10 +28,6 @@ one_passes q (d ∷ ds) c a h = by (and_parts (q d) (list_all q ds) a).0 (one_pa
 
 -- ---- what may stand behind a sign
 
-and_false : (x : Bool) → (x && false) ≡ false
-and_false true = refl
-and_false false = refl
-
 single_parts : (a b d e : Bool) → a ≡ false → b ≡ false → d ≡ false → e ≡ false → (not a && (not b && (not d && not e))) ≡ true
 single_parts a b d e h g f k = ap (λ z. not z && (not b && (not d && not e))) h ∙ (ap (λ z. not z && (not d && not e)) g ∙ (ap (λ z. not z && not e) f ∙ ap not k))
 
@@ -41,7 +38,7 @@ no_match q c d h g = by (c == d) refl where
   by false e = refl
 
 and_last : (x y : Bool) → y ≡ false → (x && y) ≡ false
-and_last x y e = ap (λ z. x && z) e ∙ and_false x
+and_last x y e = ap (λ z. x && z) e ∙ and-false x
 
 -- signs of which two alike are one piece
 doubled_differ : (q : ℕ → Bool) (s c : ℕ) → list_all (λ d. not (q d)) (codes "&|+-:") ≡ true → q c ≡ true → ((s == c) && is_doubled s) ≡ false

@@ -1,6 +1,6 @@
 -- The names and numbers among the tokens of a text stand alone.
 use Rattle.std.proofs.Common.{◌≡◌, ◌⊎◌, ℕ, ◌+◌, ◌<◌, ◌≤◌, Bool, true, false, ◌&&◌, ◌||◌, ◌==◌, nat_lt, nat_le, if◌then◌else◌, List, [], ◌∷◌, ◌++◌, Some, None, option_map, Result, Ok, Err, refl, sym as turned, inl, inr, ap, ◌∙◌, codes, append-nil, append_assoc, arith}
-use Rattle.std.proofs.lemmas.Bool.{false≢true, and_parts}
+use Rattle.std.proofs.lemmas.Bool.{and_from, and_parts, false≢true}
 use Rattle.std.proofs.lemmas.Bool.Decides.{leb_tells}
 use Rattle.std.proofs.lemmas.Str.{chars-encodes, scalars-chars, encodes-append, encode_ascii}
 use lib.Utf8.{scalar, scalars, encode, encodes, low_scalar}
@@ -16,9 +16,6 @@ use Rattle.wesl_text_tokens.proofs.Steps.{nothing_before, bytes_of_is}
 use Rattle.wesl_text_sound.proofs.EachToken.{EachToken, StandsAlone, NamesStandAlone}
 use Rattle.wesl_text_sound.proofs.TokensHold.{Digits, AllHold, Characters, tokens_hold}
 use Rattle.wesl_text_reading.proofs.Filled.{no_some}
-
-and_both : (x y : Bool) → x ≡ true → y ≡ true → (x && y) ≡ true
-and_both x y e g = ap (λ z. z && y) e ∙ g
 
 -- ---- characters that are read as one piece
 
@@ -51,15 +48,15 @@ one_encoded c = append-nil (encode c) ∙ turned (bytes_of_is c)
 
 scalars_and : (cs ds : List ℕ) → scalars cs ≡ true → scalars ds ≡ true → scalars (cs ++ ds) ≡ true
 scalars_and [] ds h g = g
-scalars_and (c ∷ cs) ds h g = let x : (scalar c ≡ true) × (scalars cs ≡ true) = and_parts (scalar c) (scalars cs) h in and_both (scalar c) (scalars (cs ++ ds)) x.0 (scalars_and cs ds x.1 g)
+scalars_and (c ∷ cs) ds h g = let x : (scalar c ≡ true) × (scalars cs ≡ true) = and_parts (scalar c) (scalars cs) h in and_from (scalar c) (scalars (cs ++ ds)) x.0 (scalars_and cs ds x.1 g)
 
 name_begins : (c : ℕ) → IsCharacter c → ((at : ℕ) → begun at c ≡ Ok (in_name at (bytes_of c))) → begins_name c ≡ true → NameRuns (bytes_of c)
-name_begins c k b h = (c ∷ [], and_both (scalar c) true k refl, one_encoded c, run_one c (λ at. in_name at (bytes_of c)) b)
+name_begins c k b h = (c ∷ [], and_from (scalar c) true k refl, one_encoded c, run_one c (λ at. in_name at (bytes_of c)) b)
 
 name_goes : (t : Text) (c : ℕ) → IsCharacter c → NameRuns t → goes_on_name c ≡ true → NameRuns (t ++ bytes_of c)
 name_goes t c k p h = (
   p.0 ++ c ∷ [],
-  scalars_and p.0 (c ∷ []) p.1 (and_both (scalar c) true k refl),
+  scalars_and p.0 (c ∷ []) p.1 (and_from (scalar c) true k refl),
   encodes-append p.0 (c ∷ []) ∙ (ap (λ z. z ++ encodes (c ∷ [])) p.2 ∙ ap (λ z. t ++ z) (one_encoded c)),
   run_more p.0 (λ at. in_name at t) (λ at. in_name at (t ++ bytes_of c)) c (λ at fin. ap (λ b. if b then on (in_name at (t ++ bytes_of c)) else ended (a_name t) at fin c) h) p.3,
 )
@@ -74,7 +71,7 @@ low_encoded : (c : ℕ) → c < 128 → encodes (c ∷ []) ≡ c ∷ []
 low_encoded c l = append-nil (encode c) ∙ encode_ascii c l
 
 low_scalars : (c : ℕ) → c < 128 → scalars (c ∷ []) ≡ true
-low_scalars c l = and_both (scalar c) true (low_scalar c (omega arith)) refl
+low_scalars c l = and_from (scalar c) true (low_scalar c (omega arith)) refl
 
 -- ---- a number goes on with low characters alone
 

@@ -18,11 +18,11 @@ use Rattle.wesl_text_reading.specs.FirstTokens.{behind_first, begins_sign, binar
 use Rattle.wesl_text_reading.specs.Reading.{Reader, node_of, behind_child, node, any, expression, class_in, begins_post, taken, next_operator, posts, operand, go_on, whole}
 use Rattle.wesl_text_sound.specs.Laws.{AreTokens}
 use Rattle.wesl_text_reading.proofs.Filled.{no_some, of_some, no_true, fill, both}
-use Rattle.wesl_text_reading.proofs.Takes.{and_parts}
-use Rattle.wesl_text_sound.proofs.TakenApart.{with_rest, after_some, token_some, and_both, fill_must, fill_keeps, node_fills, must_rest}
+use Rattle.wesl_text_sound.proofs.TakenApart.{with_rest, after_some, token_some, fill_must, fill_keeps, node_fills, must_rest}
 use Rattle.wesl_text_sound.proofs.LeavesSaid.{LeafSaid, leaf_said}
 use Rattle.wesl_text_sound.proofs.ListsSaid.{NodeSaid, IsSound}
 use Rattle.wesl_text_sound.proofs.NodesSaid.{node_said, node_label}
+use Rattle.std.proofs.lemmas.Bool.{and_from, and_parts}
 
 -- ---- classes
 
@@ -212,7 +212,7 @@ module _ (child : Sort → Reader) (deeper : (Class → Bool) → Reader) (nodes
         let k : behind_token (symbol (unary_symbol o)) ts ≡ Some (behind_first ts) = unary_token o ts e in
         let f : PassesSaid is_tight (behind_first ts) y.0 = deep is_tight (λ c d. d) (behind_first ts) y.0 (must_rest (symbol (unary_symbol o)) ts (behind_first ts) a k) y.1 in
         subst (λ z. PassesSaid is_tight ts z) (of_some (with_rest (expression (node_of (unary o) (before y.0.0 end))) y.0.1) x y.2) (
-          made (unary o) (before y.0.0 end) (sym (unary_symbol o) (own an_expression nothing)) ts y.0.1 refl (and_both (is_tight (class_in y.0.0)) true f.1 refl)
+          made (unary o) (before y.0.0 end) (sym (unary_symbol o) (own an_expression nothing)) ts y.0.1 refl (and_from (is_tight (class_in y.0.0)) true f.1 refl)
               (fill_must (symbol (unary_symbol o)) (followed (slots_of y.0.0) (Some [])) ts (behind_first ts) y.0.1 k (both (slots_of y.0.0) (Some []) (behind_first ts) y.0.1 y.0.1 f.0 refl)),
           refl,
         )
@@ -222,7 +222,7 @@ module _ (child : Sort → Reader) (deeper : (Class → Bool) → Reader) (nodes
       → PassesSaid (takes_right (operator_class o)) (behind_first ts) (with_rest r us) → NodeSaid an_expression from (with_rest (operation o l r) us)
   operation_said o l r from ts us h t k f =
       made (binary o) (before l (before r end)) (own an_expression (sym (binary_symbol o) (own an_expression nothing))) from us refl
-      (and_both (takes_left (operator_class o) (class_in l) && takes_right (operator_class o) (class_in r)) true (and_both (takes_left (operator_class o) (class_in l)) (takes_right (operator_class o) (class_in r)) t f.1) refl)
+      (and_from (takes_left (operator_class o) (class_in l) && takes_right (operator_class o) (class_in r)) true (and_from (takes_left (operator_class o) (class_in l)) (takes_right (operator_class o) (class_in r)) t f.1) refl)
       (both (slots_of l) (followed (Some (signed (binary_symbol o) ∷ [])) (followed (slots_of r) (Some []))) from ts us h
       (fill_must (symbol (binary_symbol o)) (followed (slots_of r) (Some [])) ts (behind_first ts) us k (both (slots_of r) (Some []) (behind_first ts) us us f.0 refl)))
 

@@ -15,9 +15,9 @@ use Rattle.wesl_text_form.specs.Spelling.{Label, Forest, dot, is_one_or_two, nam
 use Rattle.wesl_text_reading.specs.Leaves.{are_free, words, step_words, item_role_by, read_leaf}
 use Rattle.wesl_text_sound.specs.Laws.{AreTokens}
 use Rattle.wesl_text_reading.proofs.Filled.{no_some, of_some, no_true, fill}
-use Rattle.wesl_text_reading.proofs.Takes.{and_parts}
-use Rattle.wesl_text_sound.proofs.TakenApart.{with_rest, where_some, and_both}
+use Rattle.wesl_text_sound.proofs.TakenApart.{with_rest, where_some}
 use Rattle.wesl_text_sound.proofs.Words.{word_lacks}
+use Rattle.std.proofs.lemmas.Bool.{and_from, and_parts}
 
 -- what was read as a leaf before other trees, is said
 abbrev pub LeafSaid : Leaf → Forest → List Token → Label × List Token → Type 0
@@ -43,7 +43,7 @@ role_same word = refl
 ident_said : (r : Role) (o : Forest) (ts : List Token) (x : Label × List Token) → AreTokens ts → read_leaf (an_ident r) ts ≡ Some x → LeafSaid (an_ident r) o ts x
 ident_said r o (name t ∷ ts) x a h =
     let y : (is_free t ≡ true) × (with_rest (ident r t) ts ≡ x) = where_some (is_free t) (ident r t) ts x h in
-    subst (λ z. LeafSaid (an_ident r) o (name t ∷ ts) z) y.1 (when_provided (same_role r r && is_name t) (named t ∷ []) (name t ∷ ts) ts (and_both (same_role r r) (is_name t) (role_same r) (and_both (is_word t) (is_free t) a.0 y.0)) (name_then t [] ts ts refl))
+    subst (λ z. LeafSaid (an_ident r) o (name t ∷ ts) z) y.1 (when_provided (same_role r r && is_name t) (named t ∷ []) (name t ∷ ts) ts (and_from (same_role r r) (is_name t) (role_same r) (and_from (is_word t) (is_free t) a.0 y.0)) (name_then t [] ts ts refl))
 ident_said r o ts x a h = absurd (no_some x h)
 
 -- what an import brings in, where its role is told by what comes next
@@ -52,13 +52,13 @@ item_said o (name t ∷ ts) x a e h =
     let y : (is_free t ≡ true) × (with_rest (ident (item_role_by ts) t) ts ≡ x) = where_some (is_free t) (ident (item_role_by ts) t) ts x h in
     let r : Role = item_role_by ts in
     let q : item_role o ≡ r = e ∙ ap (λ z. item_role_by z.1) (turned y.1) in
-    subst (λ z. LeafSaid an_item o (name t ∷ ts) z) y.1 (when_provided (same_role (item_role o) r && is_name t) (named t ∷ []) (name t ∷ ts) ts (and_both (same_role (item_role o) r) (is_name t) (ap (λ z. same_role z r) q ∙ role_same r) (and_both (is_word t) (is_free t) a.0 y.0)) (name_then t [] ts ts refl))
+    subst (λ z. LeafSaid an_item o (name t ∷ ts) z) y.1 (when_provided (same_role (item_role o) r && is_name t) (named t ∷ []) (name t ∷ ts) ts (and_from (same_role (item_role o) r) (is_name t) (ap (λ z. same_role z r) q ∙ role_same r) (and_from (is_word t) (is_free t) a.0 y.0)) (name_then t [] ts ts refl))
 item_said o ts x a e h = absurd (no_some x h)
 
 name_said : (o : Forest) (ts : List Token) (x : Label × List Token) → AreTokens ts → read_leaf a_name ts ≡ Some x → LeafSaid a_name o ts x
 name_said o (name t ∷ ts) x a h =
     let y : (is_free t ≡ true) × (with_rest (text t) ts ≡ x) = where_some (is_free t) (text t) ts x h in
-    subst (λ z. LeafSaid a_name o (name t ∷ ts) z) y.1 (when_provided (is_name t) (named t ∷ []) (name t ∷ ts) ts (and_both (is_word t) (is_free t) a.0 y.0) (name_then t [] ts ts refl))
+    subst (λ z. LeafSaid a_name o (name t ∷ ts) z) y.1 (when_provided (is_name t) (named t ∷ []) (name t ∷ ts) ts (and_from (is_word t) (is_free t) a.0 y.0) (name_then t [] ts ts refl))
 name_said o ts x a h = absurd (no_some x h)
 
 word_said : (o : Forest) (ts : List Token) (x : Label × List Token) → AreTokens ts → read_leaf a_word ts ≡ Some x → LeafSaid a_word o ts x
@@ -68,7 +68,7 @@ word_said o ts x a h = absurd (no_some x h)
 custom_said : (o : Forest) (ts : List Token) (x : Label × List Token) → AreTokens ts → read_leaf a_custom ts ≡ Some x → LeafSaid a_custom o ts x
 custom_said o (name t ∷ ts) x a h =
     let y : (not (is_among known_attributes t) ≡ true) × (with_rest (text t) ts ≡ x) = where_some (not (is_among known_attributes t)) (text t) ts x h in
-    subst (λ z. LeafSaid a_custom o (name t ∷ ts) z) y.1 (when_provided (is_word t && not (is_among known_attributes t)) (named t ∷ []) (name t ∷ ts) ts (and_both (is_word t) (not (is_among known_attributes t)) a.0 y.0) (name_then t [] ts ts refl))
+    subst (λ z. LeafSaid a_custom o (name t ∷ ts) z) y.1 (when_provided (is_word t && not (is_among known_attributes t)) (named t ∷ []) (name t ∷ ts) ts (and_from (is_word t) (not (is_among known_attributes t)) a.0 y.0) (name_then t [] ts ts refl))
 custom_said o ts x a h = absurd (no_some x h)
 
 literal_said : (o : Forest) (ts : List Token) (x : Label × List Token) → AreTokens ts → read_leaf a_literal ts ≡ Some x → LeafSaid a_literal o ts x
@@ -109,12 +109,12 @@ rule_said o ts x a h = by ts a h where
   one : (t : Text) (us : List Token) → is_word t ≡ true → fill (leaf_slots a_rule (text t) o) (name t ∷ us) ≡ Some us
   one t us w =
       subst (λ ws. fill (provided (are_words ws && is_one_or_two (length ws)) (parted is.Period ws)) (name t ∷ us) ≡ Some us) (turned (cut_one dot t (word_lacks t w).0))
-      (when_provided (are_words (t ∷ []) && is_one_or_two 1) (named t ∷ []) (name t ∷ us) us (and_both (is_word t && true) true (and_both (is_word t) true w refl) refl) (name_then t [] us us refl))
+      (when_provided (are_words (t ∷ []) && is_one_or_two 1) (named t ∷ []) (name t ∷ us) us (and_from (is_word t && true) true (and_from (is_word t) true w refl) refl) (name_then t [] us us refl))
 
   two : (t u : Text) (us : List Token) → is_word t ≡ true → is_word u ≡ true → fill (leaf_slots a_rule (text (t ++ dot ∷ u)) o) (name t ∷ symbol is.Period ∷ name u ∷ us) ≡ Some us
   two t u us w v =
       subst (λ ws. fill (provided (are_words ws && is_one_or_two (length ws)) (parted is.Period ws)) (name t ∷ symbol is.Period ∷ name u ∷ us) ≡ Some us) (turned (cut_two dot t u (word_lacks t w).0 refl ∙ ap (λ z. t ∷ z) (cut_one dot u (word_lacks u v).0)))
-      (when_provided (are_words (t ∷ u ∷ []) && is_one_or_two 2) (named t ∷ signed is.Period ∷ named u ∷ []) (name t ∷ symbol is.Period ∷ name u ∷ us) us (and_both (is_word t && (is_word u && true)) true (and_both (is_word t) (is_word u && true) w (and_both (is_word u) true v refl)) refl)
+      (when_provided (are_words (t ∷ u ∷ []) && is_one_or_two 2) (named t ∷ signed is.Period ∷ named u ∷ []) (name t ∷ symbol is.Period ∷ name u ∷ us) us (and_from (is_word t && (is_word u && true)) true (and_from (is_word t) (is_word u && true) w (and_from (is_word u) true v refl)) refl)
       (name_then t (signed is.Period ∷ named u ∷ []) (symbol is.Period ∷ name u ∷ us) us (name_then u [] us us refl)))
 
   by : (ts : List Token) → AreTokens ts → read_leaf a_rule ts ≡ Some x → LeafSaid a_rule o ts x
@@ -136,12 +136,12 @@ words_said (name t ∷ symbol is.Comma ∷ ts) a = by (words ts) (words_said ts 
   by : (x : List Text × List Token) → WordsSaid ts x → WordsSaid (name t ∷ symbol is.Comma ∷ ts) (t ∷ x.0, x.1)
   by x h = at x.0 x.1 h.0 h.1 where
     at : (ws : List Text) (us : List Token) → are_words ws ≡ true → left (trailing (parted is.Comma ws)) ts ≡ Some us → WordsSaid (name t ∷ symbol is.Comma ∷ ts) (t ∷ ws, us)
-    at [] us w k = (and_both (is_word t) true a.0 refl, name_then t (may (symbol is.Comma) ∷ []) (symbol is.Comma ∷ ts) us k)
+    at [] us w k = (and_from (is_word t) true a.0 refl, name_then t (may (symbol is.Comma) ∷ []) (symbol is.Comma ∷ ts) us k)
     at (v ∷ vs) us w k = (
-      and_both (is_word t) (are_words (v ∷ vs)) a.0 w,
+      and_from (is_word t) (are_words (v ∷ vs)) a.0 w,
       ap (λ ss. left ss (name t ∷ symbol is.Comma ∷ ts)) (comma_behind t v vs) ∙ name_then t (signed is.Comma ∷ trailing (parted is.Comma (v ∷ vs))) (symbol is.Comma ∷ ts) us k,
     )
-words_said (name t ∷ ts) a = (and_both (is_word t) true a.0 refl, name_then t (may (symbol is.Comma) ∷ []) ts ts refl)
+words_said (name t ∷ ts) a = (and_from (is_word t) true a.0 refl, name_then t (may (symbol is.Comma) ∷ []) ts ts refl)
 words_said ts a = (refl, refl)
 
 one_word : (t : Text) (ts : List Token) → nat_le 1 (length (words (name t ∷ ts)).0) ≡ true
@@ -152,14 +152,14 @@ some_said : (o : Forest) (ts : List Token) (x : Label × List Token) → AreToke
 some_said o (name t ∷ ts) x a h =
     let x1 : WordsSaid (name t ∷ ts) (words (name t ∷ ts)) = words_said (name t ∷ ts) a in
     subst (λ z. LeafSaid some_words o (name t ∷ ts) z) (of_some (with_rest (texts (words (name t ∷ ts)).0) (words (name t ∷ ts)).1) x h)
-    (when_provided (are_words (words (name t ∷ ts)).0 && nat_le 1 (length (words (name t ∷ ts)).0)) (trailing (parted is.Comma (words (name t ∷ ts)).0)) (name t ∷ ts) (words (name t ∷ ts)).1 (and_both (are_words (words (name t ∷ ts)).0) (nat_le 1 (length (words (name t ∷ ts)).0)) x1.0 (one_word t ts)) x1.1)
+    (when_provided (are_words (words (name t ∷ ts)).0 && nat_le 1 (length (words (name t ∷ ts)).0)) (trailing (parted is.Comma (words (name t ∷ ts)).0)) (name t ∷ ts) (words (name t ∷ ts)).1 (and_from (are_words (words (name t ∷ ts)).0) (nat_le 1 (length (words (name t ∷ ts)).0)) x1.0 (one_word t ts)) x1.1)
 some_said o ts x a h = absurd (no_some x h)
 
 few_said : (o : Forest) (ts : List Token) (x : Label × List Token) → AreTokens ts → read_leaf one_or_two ts ≡ Some x → LeafSaid one_or_two o ts x
 few_said o ts x a h =
     let w : WordsSaid ts (words ts) = words_said ts a in
     let y : (is_one_or_two (length (words ts).0) ≡ true) × (with_rest (texts (words ts).0) (words ts).1 ≡ x) = where_some (is_one_or_two (length (words ts).0)) (texts (words ts).0) (words ts).1 x h in
-    subst (λ z. LeafSaid one_or_two o ts z) y.1 (when_provided (are_words (words ts).0 && is_one_or_two (length (words ts).0)) (trailing (parted is.Comma (words ts).0)) ts (words ts).1 (and_both (are_words (words ts).0) (is_one_or_two (length (words ts).0)) w.0 y.0) w.1)
+    subst (λ z. LeafSaid one_or_two o ts z) y.1 (when_provided (are_words (words ts).0 && is_one_or_two (length (words ts).0)) (trailing (parted is.Comma (words ts).0)) ts (words ts).1 (and_from (are_words (words ts).0) (is_one_or_two (length (words ts).0)) w.0 y.0) w.1)
 
 -- ---- steps
 
@@ -169,7 +169,7 @@ StepsSaid ts x = (are_words x.0 ≡ true) × (left (stepped x.0) ts ≡ Some x.1
 pub steps_said : (ts : List Token) → AreTokens ts → StepsSaid ts (step_words ts)
 steps_said (name t ∷ symbol is.ColonColon ∷ ts) a = by (step_words ts) (steps_said ts a.1.1) where
   by : (x : List Text × List Token) → StepsSaid ts x → StepsSaid (name t ∷ symbol is.ColonColon ∷ ts) (t ∷ x.0, x.1)
-  by x h = (and_both (is_word t) (are_words x.0) a.0 h.0, name_then t (signed is.ColonColon ∷ stepped x.0) (symbol is.ColonColon ∷ ts) x.1 h.1)
+  by x h = (and_from (is_word t) (are_words x.0) a.0 h.0, name_then t (signed is.ColonColon ∷ stepped x.0) (symbol is.ColonColon ∷ ts) x.1 h.1)
 steps_said ts a = (refl, refl)
 
 -- free words are names
@@ -178,7 +178,7 @@ free_names [] w f = refl
 free_names (t ∷ ts) w f =
     let x : (is_word t ≡ true) × (are_words ts ≡ true) = and_parts (is_word t) (are_words ts) w in
     let y : (is_free t ≡ true) × (are_free ts ≡ true) = and_parts (is_free t) (are_free ts) f in
-    and_both (is_name t) (are_names ts) (and_both (is_word t) (is_free t) x.0 y.0) (free_names ts x.1 y.1)
+    and_from (is_name t) (are_names ts) (and_from (is_word t) (is_free t) x.0 y.0) (free_names ts x.1 y.1)
 
 names_said : (o : Forest) (ts : List Token) (x : Label × List Token) → AreTokens ts → read_leaf steps ts ≡ Some x → LeafSaid steps o ts x
 names_said o ts x a h =

@@ -10,12 +10,13 @@ use Rattle.wesl_text_form.specs.Spelling.{Label, Forest, Slots, spells, followed
 use Rattle.wesl_text_reading.specs.Leaves.{Read, after, where_so}
 use Rattle.wesl_text_reading.specs.Reading.{Reader, node_of, label_first, read_row, read_node, without_end, read_part, node}
 use Rattle.wesl_text_reading.proofs.Filled.{no_some, of_some, no_true, fill}
-use Rattle.wesl_text_reading.proofs.Takes.{and_parts, at_rows}
+use Rattle.wesl_text_reading.proofs.Takes.{at_rows}
 use Rattle.wesl_text_reading.proofs.KindsAgain.{kind_is}
 use Rattle.wesl_text_reading.proofs.Unended.{ends_with, ends_gone, splits}
 use Rattle.wesl_text_sound.proofs.TakenApart.{with_rest, after_some, where_some, node_fills}
 use Rattle.wesl_text_sound.proofs.ListsSaid.{NodeSaid, IsSound, IsSoundPart, RowSaid}
 use Rattle.wesl_text_sound.proofs.RowsSaid.{is_said, row_said}
+use Rattle.std.proofs.lemmas.Bool.{and_parts}
 
 -- ---- all rows
 

@@ -14,11 +14,11 @@ use Rattle.wesl_text_reading.specs.Leaves.{are_free, step_words, slashed_behind,
 use Rattle.wesl_text_reading.specs.FirstTokens.{begins_path}
 use Rattle.wesl_text_sound.specs.Laws.{AreTokens}
 use Rattle.wesl_text_reading.proofs.Filled.{no_some, of_some, no_true, left_joined}
-use Rattle.wesl_text_reading.proofs.Takes.{and_parts}
 use Rattle.wesl_text_reading.proofs.Attributes.{cut_filled}
-use Rattle.wesl_text_sound.proofs.TakenApart.{with_rest, and_both}
+use Rattle.wesl_text_sound.proofs.TakenApart.{with_rest}
 use Rattle.wesl_text_sound.proofs.Words.{word_lacks}
 use Rattle.wesl_text_sound.proofs.LeavesSaid.{LeafSaid, StepsSaid, name_then, when_provided, cut_one, cut_two, steps_said, free_names}
+use Rattle.std.proofs.lemmas.Bool.{and_from, and_parts}
 
 -- ---- the words that a path begins with
 
@@ -35,12 +35,12 @@ slashed_said t (symbol is.Slash ∷ name u ∷ ts) w a = by (slashed_behind u ts
 
     at : ((p : Text) × (ps : List Text) × (cut slash x.0 ≡ p ∷ ps)) → Slashed t (symbol is.Slash ∷ name u ∷ ts) (t ++ slash ∷ x.0, x.1)
     at c = (
-      ap are_words two ∙ and_both (is_word t) (are_words (cut slash x.0)) w h.0,
+      ap are_words two ∙ and_from (is_word t) (are_words (cut slash x.0)) w h.0,
       ap (λ z. left (parted is.Slash z) (name t ∷ symbol is.Slash ∷ name u ∷ ts)) (two ∙ ap (λ z. t ∷ z) c.2)
           ∙ name_then t (signed is.Slash ∷ parted is.Slash (c.0 ∷ c.1)) (symbol is.Slash ∷ name u ∷ ts) x.1 (ap (λ z. left (parted is.Slash z) (name u ∷ ts)) (turned c.2) ∙ h.1),
     )
 slashed_said t ts w a = (
-  ap are_words (cut_one slash t (word_lacks t w).1) ∙ and_both (is_word t) true w refl,
+  ap are_words (cut_one slash t (word_lacks t w).1) ∙ and_from (is_word t) true w refl,
   ap (λ z. left (parted is.Slash z) (name t ∷ ts)) (cut_one slash t (word_lacks t w).1) ∙ name_then t [] ts ts refl,
 )
 
@@ -54,7 +54,7 @@ slashed_rest t ts a = a
 
 first_said : (slashes : Bool) (t : Text) (ts : List Token) → is_word t ≡ true → AreTokens ts → Begins slashes (name t ∷ ts) (first_text slashes (name t ∷ ts))
 first_said true t ts w a = let x : Slashed t ts (slashed_behind t ts) = slashed_said t ts w a in (x.0, x.1, slashed_rest t ts a)
-first_said false t ts w a = (and_both (is_word t) true w refl, name_then t [] ts ts refl, a)
+first_said false t ts w a = (and_from (is_word t) true w refl, name_then t [] ts ts refl, a)
 
 -- ---- origins
 
@@ -71,7 +71,7 @@ free_parts o ws p h = at (are_free ws) h where
 free_is : (slashes : Bool) (o : Origin) (ws : List Text) (p : Path) → is_origin slashes o ≡ true → are_words ws ≡ true → free_path o ws ≡ Some p → PathIs slashes (origin_slots slashes o ++ stepped ws) p
 free_is slashes o ws p i w h =
     let x : (are_free ws ≡ true) × (record { origin = o; components = ws } ≡ p) = free_parts o ws p h in
-    subst (λ z. PathIs slashes (origin_slots slashes o ++ stepped ws) z) x.1 (and_both (is_origin slashes o) (are_names ws) i (free_names ws w x.0), refl)
+    subst (λ z. PathIs slashes (origin_slots slashes o ++ stepped ws) z) x.1 (and_from (is_origin slashes o) (are_names ws) i (free_names ws w x.0), refl)
 
 stepped_joined : (a b : List Text) → stepped (a ++ b) ≡ stepped a ++ stepped b
 stepped_joined [] b = refl
@@ -100,7 +100,7 @@ word_alone false w h = refl
 
 package_free : (slashes : Bool) (t : Text) → are_words (package_words slashes t) ≡ true → are_free (package_words slashes t) ≡ true → is_origin slashes (from_package t) ≡ true
 package_free true t w f = free_names (cut slash t) w f
-package_free false t w f = and_both (is_word t) (is_free t) (and_parts (is_word t) true w).0 (and_parts (is_free t) true f).0
+package_free false t w f = and_from (is_word t) (is_free t) (and_parts (is_word t) true w).0 (and_parts (is_free t) true f).0
 
 path_is : (slashes : Bool) (t : Text) (ws : List Text) (p : Path) → are_words (package_words slashes t) ≡ true → are_words ws ≡ true → path_of slashes t ws ≡ Some p → PathIs slashes (all_slots slashes t ws) p
 path_is slashes t ws p f w h = by (bytes_eq t (codes "package")) (bytes_eq t (codes "self")) (bytes_eq t (codes "super")) (are_free (package_words slashes t)) refl refl refl refl h where

@@ -16,7 +16,6 @@ use Rattle.wesl_text_reading.specs.FirstTokens.{begins_word, begins_sign, behind
 use Rattle.wesl_text_reading.specs.Reading.{Reader, node_of, and_others, all_of, separate_of, begins_child, begins_row, wildcard, read_target, lone_default, read_selectors, read_row}
 use Rattle.wesl_text_sound.specs.Laws.{AreTokens}
 use Rattle.wesl_text_reading.proofs.Filled.{no_some, of_some, no_true, fill, parts, both, stands}
-use Rattle.wesl_text_reading.proofs.Takes.{and_parts}
 use Rattle.wesl_text_reading.proofs.Chains.{expression_parts}
 use Rattle.wesl_text_reading.proofs.RowReads.{target_slots, selector_slots}
 use Rattle.wesl_text_reading.proofs.Types.{must_first}
@@ -24,6 +23,7 @@ use Rattle.wesl_text_sound.proofs.TakenApart.{with_rest, after_some, others_some
 use Rattle.wesl_text_sound.proofs.LeavesSaid.{LeafSaid, item_said, leaf_said}
 use Rattle.wesl_text_sound.proofs.PathsSaid.{path_said}
 use Rattle.wesl_text_sound.proofs.ListsSaid.{IsSound, IsSoundPart, RowSaid, kind_self, all_said, is_first, separate_said}
+use Rattle.std.proofs.lemmas.Bool.{and_parts}
 
 -- ---- which rows
 

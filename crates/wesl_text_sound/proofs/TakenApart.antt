@@ -32,9 +32,6 @@ pub where_some : {A : Type 0} (b : Bool) (a : A) (ts : List Token) (y : A × Lis
 where_some true a ts y h = (refl, of_some (with_rest a ts) y h)
 where_some false a ts y h = absurd (no_some y h)
 
-pub and_both : (x y : Bool) → x ≡ true → y ≡ true → (x && y) ≡ true
-and_both x y e g = ap (λ z. z && y) e ∙ g
-
 -- ---- slots that are filled
 
 pub fill_must : (t : Token) (b : Slots) (ts vs us : List Token) → behind_token t ts ≡ Some vs → fill b vs ≡ Some us → fill (followed (Some (must t ∷ [])) b) ts ≡ Some us

@@ -19,12 +19,13 @@ use Rattle.wesl_text_form.specs.Operators.{unary_symbol, binary_symbol}
 use Rattle.wesl_text_form.specs.Productions.{Sort, an_expression, a_bare_expression, a_call, a_type, an_argument, an_attribute, a_bare_attribute, a_body, a_statement, attrs, Leaf, an_ident, an_item, a_name as a_name_leaf, a_word, a_custom, a_literal, a_rule, some_words, one_or_two, steps, a_path, Row, nothing, sym, may_sym, says, opens, closes, own, leaf, run, commas, optional, rows_of, row_of, spanned}
 use Rattle.wesl_text_form.specs.Spelling.{Label, Forest, Slots, spells, followed, provided, named, signed, parted, trailing, stepped, package_words, origin_slots, dot, is_one_or_two, item_role, leaf_slots, first_slots, row_slots, row_of_none, with_comma, is_kind, is_end, fits, stands_as}
 use Rattle.wesl_text_reading.proofs.Filled.{no_some, of_some, no_true}
-use Rattle.wesl_text_reading.proofs.Takes.{and_parts, at_rows}
+use Rattle.wesl_text_reading.proofs.Takes.{at_rows}
 use Rattle.wesl_text_reading.proofs.Operands.{only_row}
 use Rattle.wesl_text_writable.proofs.Fresh.{either_is}
 use Rattle.wesl_text_writable.proofs.Clear.{braced}
 use Rattle.wesl_text_writable.proofs.HardTrees.{of_either, of_node}
 use Rattle.wesl_text_writable.proofs.Braced.{is_level, are_level, after, is_brace, is_comma, is_braced, braced_joined}
+use Rattle.std.proofs.lemmas.Bool.{and_parts, or_right}
 
 -- slots from so many parentheses to so many
 abbrev Passes : ℕ → ℕ → List Slot → Type 0
@@ -41,10 +42,6 @@ followed_pass : (a b : Slots) (n m k : ℕ) → SlotsPass n m a → SlotsPass m 
 followed_pass None b n m k p q = tt
 followed_pass (Some ss) None n m k p q = tt
 followed_pass (Some ss) (Some us) n m k p q = joined_pass ss us n m k p q
-
-or_right : (a b : Bool) → b ≡ true → (a || b) ≡ true
-or_right true b h = refl
-or_right false b h = h
 
 must_pass : (t : Token) (n m : ℕ) → after t n ≡ Some m → Passes n m (must t ∷ [])
 must_pass t n m e rest h = ap (λ o. is_brace t || (elim o as (λ _. Bool) [ None ↦ false | Some m ↦ is_braced m rest ])) e ∙ or_right (is_brace t) (is_braced m rest) h

@@ -1,6 +1,6 @@
 -- A colon before a body has no bearing on it: nothing before `{` reaches back over it.
 use Rattle.std.proofs.Common.{◌≡◌, ◌≤◌, ◌<◌, ◌⊎◌, ℕ, zero, suc, ◌+◌, ◌-◌, Bool, true, false, not, ◌&&◌, ◌||◌, ◌==◌, if◌then◌else◌, List, [], ◌∷◌, ◌++◌, Option, Some, None, refl, sym as turned, inl, inr, ap, ◌∙◌, subst, codes, bytes_eq, nat_lt, eqb-true, arith}
-use Rattle.std.proofs.lemmas.Bool.{ne_eqb, eq-eqb, eqb-false}
+use Rattle.std.proofs.lemmas.Bool.{and_parts, eq-eqb, eqb-false, ne_eqb}
 use Rattle.std.proofs.lemmas.Bool.Decides.{leb_tells}
 use Rattle.wesl_tree_names.specs.Path.{Text}
 use Rattle.wesl_text_tokens.specs.declared.symbol.Symbol.TheVariants as is
@@ -10,7 +10,6 @@ use Rattle.wesl_text_tokens.specs.Tokens.{Token, symbol}
 use Rattle.wesl_text_form.specs.Slots.{Slot, must, may, alone}
 use Rattle.wesl_text_form.specs.Says.{token_bits}
 use Rattle.wesl_text_reading.proofs.Filled.{no_true}
-use Rattle.wesl_text_reading.proofs.Takes.{and_parts}
 
 -- ---- two runs, of which one knows of `<` from before
 
@@ -191,10 +190,6 @@ is_braced n [] = false
 is_braced n (must t ∷ ss) = is_brace t || (elim (after t n) as (λ _. Bool) [ None ↦ false | Some m ↦ is_braced m ss ])
 is_braced n (may t ∷ ss) = is_comma t && is_braced n ss
 is_braced n (alone ∷ ss) = false
-
-or_right : (a b : Bool) → b ≡ true → (a || b) ≡ true
-or_right true b h = refl
-or_right false b h = h
 
 -- what is behind the `{` has no bearing
 pub braced_joined : (ss us : List Slot) (n : ℕ) → is_braced n ss ≡ true → is_braced n (ss ++ us) ≡ true

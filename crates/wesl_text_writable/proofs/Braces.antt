@@ -7,12 +7,12 @@ use Rattle.wesl_text_tokens.specs.Tokens.{Token, symbol}
 use Rattle.wesl_text_form.specs.Slots.{Slot, must, may, alone, same_token, behind_token, behind_if_there, left}
 use Rattle.wesl_text_form.specs.Says.{token_bits, bits_apart}
 use Rattle.wesl_text_reading.proofs.Filled.{no_some, of_some, no_true, same_is, stands}
-use Rattle.wesl_text_reading.proofs.Takes.{and_parts}
 use Rattle.wesl_text_writable.proofs.Grouped.{number_behind}
 use Rattle.wesl_text_writable.proofs.KnownApart.{known_apart}
 use Rattle.wesl_text_writable.proofs.Quiet.{mark_first}
 use Rattle.wesl_text_writable.proofs.LeftOut.{SameBrackets, ClearsSame, Nested, cleared, bits_done, names_forgotten, unmarked_first}
 use Rattle.wesl_text_writable.proofs.Braced.{are_level, after, is_brace, is_comma, is_braced, lift, Within, outside_lift, raise, Alike, is_level, level_alike}
+use Rattle.std.proofs.lemmas.Bool.{and_parts}
 
 bits_alike : (bs : List Bit) (i n : ℕ) (a b : Known) → are_level n bs ≡ true → Alike n a b → Alike n (known_from i a bs) (known_from i b bs)
 bits_alike [] i n a b h x = x

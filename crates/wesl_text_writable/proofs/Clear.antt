@@ -9,9 +9,9 @@ use Rattle.wesl_text_tokens.specs.Tokens.{Token, name, number, symbol, open_list
 use Rattle.wesl_text_form.specs.Slots.{Slot, must, may, alone, same_token, behind_if_there, left, fewest}
 use Rattle.wesl_text_form.specs.Spelling.{Slots, followed, trailing}
 use Rattle.wesl_text_reading.proofs.Filled.{no_true, same_is}
-use Rattle.wesl_text_reading.proofs.Takes.{and_parts}
 use Rattle.wesl_text_writable.proofs.Braced.{is_comma, is_braced, braced_joined}
 use Rattle.wesl_text_writable.proofs.KnownApart.{touches}
+use Rattle.std.proofs.lemmas.Bool.{and_parts}
 
 -- the tokens that need not stand everywhere: comma and colon
 abbrev pub is_left_out : Token → Bool

@@ -15,7 +15,6 @@ use Rattle.wesl_text_form.specs.Productions.{Sort, an_expression, a_bare_express
 use Rattle.wesl_text_form.specs.Spelling.{Label, Forest, Slots, spells, followed, named, signed, parted, trailing, stepped, package_words, origin_slots, dot, is_one_or_two, item_role, leaf_slots, first_slots, row_slots, row_of_none, with_comma, label_at, below_first, is_kind, is_wildcard, leads_to_place, is_lone_default, is_end, is_absent_at, is_simple, is_simple_at, without_last}
 use Rattle.wesl_text_reading.specs.Reading.{Reader, without_end}
 use Rattle.wesl_text_reading.proofs.Filled.{no_some, of_some, no_true}
-use Rattle.wesl_text_reading.proofs.Takes.{and_parts}
 use Rattle.wesl_text_reading.proofs.KindsAgain.{kind_is, label_is}
 use Rattle.wesl_text_reading.proofs.Unended.{ends_with, ends_gone, splits}
 use Rattle.wesl_text_writable.proofs.Clear.{braced, is_left_out, is_hard_before, is_clear_before, are_hard, are_clear, clear_any, clear_joined, clear_followed, clear_may, clear_must, trailing_clear}
@@ -23,6 +22,7 @@ use Rattle.wesl_text_writable.proofs.Braced.{is_comma}
 use Rattle.wesl_text_writable.proofs.BodyTrees.{braced_followed, body_braced}
 use Rattle.wesl_text_writable.proofs.KnownApart.{touches}
 use Rattle.wesl_text_writable.proofs.HardTrees.{is_hard, of_provided, of_either, of_node, rows_are_hard}
+use Rattle.std.proofs.lemmas.Bool.{and_parts}
 
 -- ---- which rows
 

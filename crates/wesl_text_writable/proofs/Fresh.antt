@@ -1,6 +1,6 @@
 -- Which pieces are known to open or close a list: a `<` or a `>`, and none that has been passed.
-use Rattle.std.proofs.Common.{◌≡◌, ◌≤◌, ◌<◌, ◌⊎◌, ℕ, suc, Bool, true, false, ◌&&◌, ◌||◌, ◌==◌, if◌then◌else◌, List, [], ◌∷◌, refl, sym as turned, inl, inr, ap, ◌∙◌, codes, bytes_eq, nat_lt, ◌-◌, arith}
-use Rattle.std.proofs.lemmas.Bool.{ne_eqb}
+use Rattle.std.proofs.Common.{◌≡◌, ◌≤◌, ◌<◌, ◌⊎◌, ℕ, suc, Bool, true, false, ◌&&◌, ◌||◌, ◌==◌, if◌then◌else◌, List, [], ◌∷◌, refl, sym as turned, inl, inr, ◌∙◌, codes, bytes_eq, nat_lt, ◌-◌, arith}
+use Rattle.std.proofs.lemmas.Bool.{ne_eqb, or_from, or_parts}
 use Rattle.wesl_tree_names.specs.Path.{Text}
 use Rattle.wesl_text_tokens.specs.Characters.{is_one_of}
 use Rattle.wesl_text_tokens.specs.Pieces.{What, a_name, a_number, a_sign, Bit}
@@ -27,16 +27,9 @@ pub either_is : {A : Type 0} (P : A → Type 0) (b : Bool) (x y : A) → P x →
 either_is P true x y h g = h
 either_is P false x y h g = g
 
-none_of : (a b : Bool) → (a || b) ≡ false → (a ≡ false) × (b ≡ false)
-none_of true b h = absurd (no_true (turned h))
-none_of false b h = (refl, h)
-
-not_one : (a b : Bool) → a ≡ false → b ≡ false → (a || b) ≡ false
-not_one a b h g = ap (λ z. z || b) h ∙ g
-
 outside_lacks : (d n : ℕ) (ps : List (ℕ × ℕ)) → is_one_of (numbers ps) n ≡ false → is_one_of (numbers (outside d ps)) n ≡ false
 outside_lacks d n [] h = refl
-outside_lacks d n (p ∷ ps) h = either_is (λ z. is_one_of (numbers z) n ≡ false) (nat_lt p.1 d) (p ∷ ps) (outside d ps) h (outside_lacks d n ps (none_of (n == p.0) (is_one_of (numbers ps) n) h).1)
+outside_lacks d n (p ∷ ps) h = either_is (λ z. is_one_of (numbers z) n ≡ false) (nat_lt p.1 d) (p ∷ ps) (outside d ps) h (outside_lacks d n ps (or_parts (n == p.0) (is_one_of (numbers ps) n) h).1)
 
 -- whether a piece is `<`, or `>`
 abbrev pub is_mark : Text → What → Bool
@@ -51,14 +44,14 @@ module _ (n i : ℕ) (next : Text) where
   less_lacks : (b x y : Bool) (k : Known) → (n == i) ≡ false → LacksOpen n k → LacksOpen n (at_less i b x y k)
   less_lacks b x y k e h =
       either_is (LacksOpen n) (y || (b && x)) (record k { is_passed = true }) (if b then record k { pending = (i, k.depth) ∷ k.pending } else k) h
-      (either_is (LacksOpen n) b (record k { pending = (i, k.depth) ∷ k.pending }) k (h.0, not_one (n == i) (is_one_of (numbers k.pending) n) e h.1) h)
+      (either_is (LacksOpen n) b (record k { pending = (i, k.depth) ∷ k.pending }) k (h.0, or_from (n == i) (is_one_of (numbers k.pending) n) e h.1) h)
 
   greater_lacks : (x : Bool) (k : Known) (ps : List (ℕ × ℕ)) → is_one_of k.opened n ≡ false → is_one_of (numbers k.pending) n ≡ false → is_one_of (numbers ps) n ≡ false → LacksOpen n (at_greater i x k ps)
   greater_lacks x k [] h g m = (h, g)
   greater_lacks x k (p ∷ ps) h g m =
-      let q : ((n == p.0) ≡ false) × (is_one_of (numbers ps) n ≡ false) = none_of (n == p.0) (is_one_of (numbers ps) n) m in
+      let q : ((n == p.0) ≡ false) × (is_one_of (numbers ps) n ≡ false) = or_parts (n == p.0) (is_one_of (numbers ps) n) m in
       either_is (LacksOpen n) (p.1 == k.depth) (record k { pending = ps; opened = p.0 ∷ k.opened; closed = i ∷ k.closed }) (record k { is_passed = x })
-      (not_one (n == p.0) (is_one_of k.opened n) q.0 h, q.1) (h, g)
+      (or_from (n == p.0) (is_one_of k.opened n) q.0 h, q.1) (h, g)
 
   sign_lacks : (b : Bool) (s : Text) (k : Known) → Other (codes "<") n i (a_sign s) → LacksOpen n k → LacksOpen n (at_sign i b s next k)
   sign_lacks b s k o h =
@@ -85,7 +78,7 @@ module _ (n i : ℕ) (next : Text) where
   greater_open : (x : Bool) (k : Known) (ps : List (ℕ × ℕ)) → (n == i) ≡ false → LacksClosed n k → LacksClosed n (at_greater i x k ps)
   greater_open x k [] e h = h
   greater_open x k (p ∷ ps) e h =
-      either_is (LacksClosed n) (p.1 == k.depth) (record k { pending = ps; opened = p.0 ∷ k.opened; closed = i ∷ k.closed }) (record k { is_passed = x }) (not_one (n == i) (is_one_of k.closed n) e h) h
+      either_is (LacksClosed n) (p.1 == k.depth) (record k { pending = ps; opened = p.0 ∷ k.opened; closed = i ∷ k.closed }) (record k { is_passed = x }) (or_from (n == i) (is_one_of k.closed n) e h) h
 
   sign_open : (b : Bool) (s : Text) (k : Known) → Other (codes ">") n i (a_sign s) → LacksClosed n k → LacksClosed n (at_sign i b s next k)
   sign_open b s k o h =

@@ -11,9 +11,9 @@ use Rattle.wesl_text_tokens.specs.Tokens.{Token, name, number, symbol, open_list
 use Rattle.wesl_text_form.specs.Says.{sign_bit, sign_bits, token_bits}
 use Rattle.wesl_text_tokens.proofs.SymbolTexts.{each, symbol_of_text, text_of_symbol}
 use Rattle.wesl_text_reading.proofs.Filled.{no_true}
-use Rattle.wesl_text_reading.proofs.Takes.{and_parts}
 use Rattle.wesl_text_writable.proofs.Signs.{is_sign_text, lone_text, meet, BitsFit}
 use Rattle.wesl_text_writable.proofs.Fresh.{Before, before_step, opens_by, closes_by}
+use Rattle.std.proofs.lemmas.Bool.{and_parts}
 
 -- the first of pieces stands right behind another, or not
 abbrev pub glue : Bool → List Bit → List Bit

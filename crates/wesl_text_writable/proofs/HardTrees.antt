@@ -16,8 +16,9 @@ use Rattle.wesl_text_form.specs.Operators.{unary_symbol, class_of, is_tight}
 use Rattle.wesl_text_form.specs.Productions.{Sort, an_expression, a_bare_expression, an_attribute, a_bare_attribute, a_space, an_access, an_import, a_bare_import, a_directive, a_bare_directive, a_member, a_bare_member, a_statement, a_bare_statement, a_declaration, a_bare_declaration, a_selector, Leaf, an_ident, an_item, a_name, a_word, a_custom, a_literal, a_rule, some_words, one_or_two, steps, a_path, Row, nothing, sym, may_sym, says, opens, closes, own, leaf, run, commas, optional, inside, target, selectors, unended, arrow, rows_of, row_of, spanned}
 use Rattle.wesl_text_form.specs.Spelling.{Label, Forest, Slots, spells, followed, provided, named, signed, parted, trailing, stepped, package_words, origin_slots, dot, is_one_or_two, item_role, leaf_slots, first_slots, row_slots, row_of_none, label_at, is_kind, is_wildcard, leads_to_place, is_lone_default, is_end, fits, stands_as}
 use Rattle.wesl_text_reading.proofs.Filled.{no_some, of_some, no_true}
-use Rattle.wesl_text_reading.proofs.Takes.{and_parts, at_rows}
+use Rattle.wesl_text_reading.proofs.Takes.{at_rows}
 use Rattle.wesl_text_writable.proofs.Clear.{is_soft_sign, is_hard_before, are_hard, hard_slots_any, hard_joined, hard_followed, trailing_hard}
+use Rattle.std.proofs.lemmas.Bool.{and_parts}
 
 -- ---- which rows
 

@@ -8,9 +8,9 @@ use Rattle.wesl_text_tokens.specs.Brackets.{Known, outside, sign_behind, at_grea
 use Rattle.wesl_text_tokens.specs.Tokens.{Token, name, number, symbol, open_list, close_list}
 use Rattle.wesl_text_form.specs.Says.{sign_bit, sign_bits, token_bits, bits_apart}
 use Rattle.wesl_text_reading.proofs.Filled.{no_true}
-use Rattle.wesl_text_reading.proofs.Takes.{and_parts}
 use Rattle.wesl_text_writable.proofs.Fresh.{Before, LacksClosed, before_step, passed_open}
 use Rattle.wesl_text_writable.proofs.Grouped.{glue, number_behind, is_plain_text, is_there, bits_there, plain_symbol, IsBracketed, Grouped}
+use Rattle.std.proofs.lemmas.Bool.{and_parts, or_parts}
 
 -- ---- which tokens may stand side by side
 
@@ -50,10 +50,6 @@ are_quiet (t ∷ u ∷ ts) = not (touches t && marks u) && are_quiet (u ∷ ts)
 
 -- ---- what is known behind a piece, by the sign behind it
 
-none_of : (a b : Bool) → (a || b) ≡ false → (a ≡ false) × (b ≡ false)
-none_of true b h = absurd (no_true (turned h))
-none_of false b h = (refl, h)
-
 -- at a sign, by what it is and what comes behind
 abbrev at_by : ℕ → Bool → Text → Known → Bool → Bool → Bool → Bool → Bool → Bool → Known
 at_by i b s k c1 c2 c3 c4 x y =
@@ -69,13 +65,13 @@ at_by i b s k c1 c2 c3 c4 x y =
 quiet_sign : (i : ℕ) (b : Bool) (s next : Text) (k : Known) → is_touchy (a_sign s) ≡ false → at_sign i b s next k ≡ at_sign i b s [] k
 quiet_sign i b s next k e = plain (bytes_eq next (codes "<")) (bytes_eq next (codes "=")) ∙ turned (plain false false) where
   a : (bytes_eq s (codes "<") ≡ false) × ((bytes_eq s (codes ">") || (bytes_eq s (codes "!") || bytes_eq s (codes "="))) ≡ false)
-  a = none_of (bytes_eq s (codes "<")) (bytes_eq s (codes ">") || (bytes_eq s (codes "!") || bytes_eq s (codes "="))) e
+  a = or_parts (bytes_eq s (codes "<")) (bytes_eq s (codes ">") || (bytes_eq s (codes "!") || bytes_eq s (codes "="))) e
 
   c : (bytes_eq s (codes ">") ≡ false) × ((bytes_eq s (codes "!") || bytes_eq s (codes "=")) ≡ false)
-  c = none_of (bytes_eq s (codes ">")) (bytes_eq s (codes "!") || bytes_eq s (codes "=")) a.1
+  c = or_parts (bytes_eq s (codes ">")) (bytes_eq s (codes "!") || bytes_eq s (codes "=")) a.1
 
   d : (bytes_eq s (codes "!") ≡ false) × (bytes_eq s (codes "=") ≡ false)
-  d = none_of (bytes_eq s (codes "!")) (bytes_eq s (codes "=")) c.1
+  d = or_parts (bytes_eq s (codes "!")) (bytes_eq s (codes "=")) c.1
 
   plain : (x y : Bool) → at_by i b s k (bytes_eq s (codes "<")) (bytes_eq s (codes ">")) (bytes_eq s (codes "!")) (bytes_eq s (codes "=")) x y ≡ at_by i b s k false false false false false false
   plain x y =
@@ -174,7 +170,7 @@ plain_next (b ∷ bs) g rest h e = by b.what e where
   by : (w : What) → is_mark w ≡ false → Plain (elim w as (λ _. Text) [ a_name t ↦ [] | a_number t ↦ [] | a_sign t ↦ if g then t else [] ])
   by (a_name t) e = (refl, refl)
   by (a_number t) e = (refl, refl)
-  by (a_sign t) e = either g t (none_of (bytes_eq t (codes "<")) (bytes_eq t (codes "=")) e)
+  by (a_sign t) e = either g t (or_parts (bytes_eq t (codes "<")) (bytes_eq t (codes "=")) e)
 
 -- ---- the bracket that closes a list
 

@@ -4,7 +4,6 @@ use Rattle.wesl_text_tokens.specs.declared.symbol.Symbol.TheVariants as is
 use Rattle.wesl_text_tokens.specs.Tokens.{Token, name, symbol}
 use Rattle.wesl_text_form.specs.Slots.{Slot, must, may, alone, same_token, behind_token, behind_if_there, comes_first, left, fewest}
 use Rattle.wesl_text_reading.proofs.Filled.{no_some, of_some, no_true, same_is, stands}
-use Rattle.wesl_text_reading.proofs.Takes.{and_parts}
 use Rattle.wesl_text_writable.proofs.Clear.{is_left_out, is_hard_before, is_clear_before}
 use Rattle.wesl_text_writable.proofs.KnownApart.{touches}
 use Rattle.wesl_text_writable.proofs.Quiet.{mark_first, filled_is}
@@ -12,6 +11,7 @@ use Rattle.wesl_text_writable.proofs.MadeApart.{AreMeant}
 use Rattle.wesl_text_writable.proofs.Braced.{is_comma, is_braced}
 use Rattle.wesl_text_writable.proofs.Braces.{braced_clears}
 use Rattle.wesl_text_writable.proofs.LeftOut.{ClearsSame, left_out, forgotten_unseen, comma_forgotten, name_forgotten, unmarked_first, colon_unseen}
+use Rattle.std.proofs.lemmas.Bool.{and_parts}
 
 abbrev Printed : List Slot → Type 0
 Printed ss = (done ts : List Token) → is_clear_before true ss ≡ true → left ss ts ≡ Some [] → AreMeant (done ++ ts) → AreMeant (done ++ fewest ss)

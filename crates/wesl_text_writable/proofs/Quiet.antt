@@ -5,10 +5,11 @@ use Rattle.wesl_text_tokens.specs.Tokens.{Token, name, number, symbol, open_list
 use Rattle.wesl_text_tokens.proofs.SymbolTexts.{each}
 use Rattle.wesl_text_form.specs.Slots.{Slot, must, may, alone, same_token, behind_token, behind_if_there, comes_first, left}
 use Rattle.wesl_text_reading.proofs.Filled.{no_some, of_some, no_true, same_is, stands}
-use Rattle.wesl_text_reading.proofs.Takes.{and_parts}
 use Rattle.wesl_text_writable.proofs.Braced.{is_comma, is_braced}
 use Rattle.wesl_text_writable.proofs.KnownApart.{touches, marks, are_quiet}
 use Rattle.wesl_text_writable.proofs.Clear.{is_left_out, is_soft_sign, is_soft, is_hard_before, is_clear_before}
+use mathlib.Core.Bool.{and-false}
+use Rattle.std.proofs.lemmas.Bool.{and_parts}
 
 -- a token that is hard has no sign first on which another may depend
 hard_unmarked : (t : Token) → not (is_soft t) ≡ true → marks t ≡ false
@@ -37,10 +38,6 @@ quiet_more : (t : Token) (ts : List Token) → (touches t && mark_first ts) ≡ 
 quiet_more t [] h q = refl
 quiet_more t (u ∷ ts) h q = ap (λ z. not z && are_quiet (u ∷ ts)) h ∙ q
 
-and_no : (a : Bool) → (a && false) ≡ false
-and_no true = refl
-and_no false = refl
-
 -- tokens are quiet, and where the slots are hard the first has no such sign
 abbrev pub Is : List Slot → List Token → Type 0
 Is ss ts = (are_quiet ts ≡ true) × (is_hard_before true ss ≡ true → mark_first ts ≡ false)
@@ -57,7 +54,7 @@ must_is t ss later ts c h = by (behind_token t ts) refl h where
   here vs i = (quiet_more t vs (apart (touches t) refl x.0) i.0, λ g. hard_unmarked t g) where
     apart : (z : Bool) → touches t ≡ z → (not (touches t) || is_hard_before true ss) ≡ true → (touches t && mark_first vs) ≡ false
     apart false e g = ap (λ z. z && mark_first vs) e
-    apart true e g = ap (λ z. touches t && z) (i.1 (turned (ap (λ z. not z || is_hard_before true ss) e) ∙ g)) ∙ and_no (touches t)
+    apart true e g = ap (λ z. touches t && z) (i.1 (turned (ap (λ z. not z || is_hard_before true ss) e) ∙ g)) ∙ and-false (touches t)
 
   by : (o : Option (List Token)) → behind_token t ts ≡ o → option_and_then (left ss) o ≡ Some [] → Is (must t ∷ ss) ts
   by None e g = absurd (no_some [] g)

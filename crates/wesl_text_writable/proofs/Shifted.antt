@@ -1,6 +1,6 @@
 -- What is known of template lists where one piece, which is none of their brackets, is left out: the numbers behind it are less by one.
 use Rattle.std.proofs.Common.{◌≡◌, ◌≤◌, ◌<◌, ◌⊎◌, ℕ, zero, suc, ◌-◌, Bool, true, false, ◌&&◌, ◌||◌, ◌==◌, if◌then◌else◌, List, [], ◌∷◌, refl, sym as turned, inl, inr, ap, ◌∙◌, codes, bytes_eq, nat_lt, eqb-true, arith}
-use Rattle.std.proofs.lemmas.Bool.{ne_eqb, eq-eqb, eqb-false, cases_lt}
+use Rattle.std.proofs.lemmas.Bool.{cases_lt, eq-eqb, eqb-false, ne_eqb, or_parts}
 use Rattle.wesl_tree_names.specs.Path.{Text}
 use Rattle.wesl_text_tokens.specs.Characters.{is_one_of}
 use Rattle.wesl_text_tokens.specs.Pieces.{What, a_name, a_number, a_sign, Bit}
@@ -50,15 +50,11 @@ abbrev pairs_back : ℕ → List (ℕ × ℕ) → List (ℕ × ℕ)
 pairs_back d [] = []
 pairs_back d (p ∷ ps) = (back d p.0, p.1) ∷ pairs_back d ps
 
-none_of : (a b : Bool) → (a || b) ≡ false → (a ≡ false) × (b ≡ false)
-none_of true b h = absurd (no_true (turned h))
-none_of false b h = (refl, h)
-
 -- a number is among them as before
 pub among_back : (d n : ℕ) (ns : List ℕ) → (n ≡ d → ⊥) → is_one_of ns d ≡ false → is_one_of (all_back d ns) (back d n) ≡ is_one_of ns n
 among_back d n [] a h = refl
 among_back d n (m ∷ ns) a h =
-    let x : ((d == m) ≡ false) × (is_one_of ns d ≡ false) = none_of (d == m) (is_one_of ns d) h in
+    let x : ((d == m) ≡ false) × (is_one_of ns d ≡ false) = or_parts (d == m) (is_one_of ns d) h in
     ap (λ z. z || is_one_of (all_back d ns) (back d n)) (same_back d n m a (λ e. eqb-false d m x.0 (turned e))) ∙ ap (λ z. (n == m) || z) (among_back d n ns a x.1)
 
 -- numbers before it stay
@@ -66,10 +62,10 @@ less_than : (d m : ℕ) (rest : List ℕ) → ((n : ℕ) → d ≤ n → is_one_
 less_than d m rest h = by (cases_lt m d) where
   by : (m < d) ⊎ (d ≤ m) → m < d
   by (inl l) = l
-  by (inr l) = absurd (no_true (turned (none_of (m == m) (is_one_of rest m) (h m l)).0 ∙ eq-eqb m m refl))
+  by (inr l) = absurd (no_true (turned (or_parts (m == m) (is_one_of rest m) (h m l)).0 ∙ eq-eqb m m refl))
 
 rest_less : (d m : ℕ) (rest : List ℕ) → ((n : ℕ) → d ≤ n → is_one_of (m ∷ rest) n ≡ false) → (n : ℕ) → d ≤ n → is_one_of rest n ≡ false
-rest_less d m rest h n l = (none_of (n == m) (is_one_of rest n) (h n l)).1
+rest_less d m rest h n l = (or_parts (n == m) (is_one_of rest n) (h n l)).1
 
 stay : (d : ℕ) (ns : List ℕ) → ((n : ℕ) → d ≤ n → is_one_of ns n ≡ false) → all_back d ns ≡ ns
 stay d [] h = refl

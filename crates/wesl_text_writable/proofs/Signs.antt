@@ -8,6 +8,7 @@ use Rattle.wesl_text_tokens.specs.Characters.{is_blank, is_line_end, is_digit, b
 use Rattle.wesl_text_tokens.specs.Numbers.{goes_on, is_whole_number}
 use Rattle.wesl_text_tokens.specs.Pieces.{What, a_name, a_number, a_sign, Piece, Bit, Mode, gap, line_comment, block_comment, in_name, in_number, in_sign, Fault, nothing_begins, no_number, Step, piece, on, stops, begun, ended, in_comment, at_number, followed_by, read_from, bits_from, bits_of}
 use Rattle.wesl_text_reading.proofs.Filled.{no_true}
+use mathlib.Core.Bool.{and-false}
 
 of_ok : {A E : Type 0} (x y : A) → (let r : Result A E = Ok x in r) ≡ Ok y → x ≡ y
 of_ok x y h = cc
@@ -56,16 +57,12 @@ abbrev pub BitsFit : Option ℕ → List Bit → Type 0
 BitsFit p [] = Unit {0}
 BitsFit p (b ∷ bs) = (is_piece b.what ≡ true) × ((b.is_glued && meet p (lone b.what)) ≡ false) × BitsFit (lone b.what) bs
 
-and_no : (b : Bool) → (b && false) ≡ false
-and_no true = refl
-and_no false = refl
-
 -- from a place on nothing meets
 abbrev Far : Option ℕ → ℕ → ℕ → Type 0
 Far p end at = (n : ℕ) (q : Option ℕ) → at ≤ n → ((n == end) && meet p q) ≡ false
 
 none_far : (end at : ℕ) → Far None end at
-none_far end at n q h = and_no (n == end)
+none_far end at n q h = and-false (n == end)
 
 later_far : (p : Option ℕ) (end at : ℕ) → end < at → Far p end at
 later_far p end at h n q k = ap (λ b. b && meet p q) (ne_eqb n end (λ e. let z : ⊥ = omega (arith, h, k, e) in z))
@@ -142,12 +139,12 @@ module _ (cs : List ℕ) (later : (m : Mode) (at : ℕ) → Fits m at cs) (at c 
   ends_with : (w : What) (s : ℕ) (p : Option ℕ) (end : ℕ) (ps : List Piece) → is_piece w ≡ true → ((s == end) && meet p (lone w)) ≡ false → meet (lone w) (Some c) ≡ false
       → elim ((ended w s at c).next) as (λ _. Result (List Piece) Fault) [ Err e ↦ Err e | Ok n ↦ followed_by (piece w s at ∷ []) (read_from n next cs) ] ≡ Ok ps → BitsFit p (bits_from end ps)
   ends_with w s p end ps a b d h =
-      let x : (qs : List Piece) × (BitsFit (lone w) (bits_from at qs)) × ((piece w s at ∷ []) ++ qs ≡ ps) = begins_to (piece w s at ∷ []) (begun at c) (lone w) at ps (λ m e. begun_fits (lone w) at at c m (ap (λ z. (at == at) && z) d ∙ and_no (at == at)) (later_far (lone w) at next (behind_char at c)) e) h in
+      let x : (qs : List Piece) × (BitsFit (lone w) (bits_from at qs)) × ((piece w s at ∷ []) ++ qs ≡ ps) = begins_to (piece w s at ∷ []) (begun at c) (lone w) at ps (λ m e. begun_fits (lone w) at at c m (ap (λ z. (at == at) && z) d ∙ and-false (at == at)) (later_far (lone w) at next (behind_char at c)) e) h in
       subst (λ z. BitsFit p (bits_from end z)) x.2 (a, b, x.1)
 
   no_meet : (p : Option ℕ) (b : Bool) → (b && meet p None) ≡ false
-  no_meet None b = and_no b
-  no_meet (Some x) b = and_no b
+  no_meet None b = and-false b
+  no_meet (Some x) b = and-false b
 
   quiet_if : (b : Bool) → is_quiet (if b then gap else line_comment) ≡ true
   quiet_if true = refl
@@ -197,12 +194,12 @@ last_fits line_comment at p end ps f h = subst (λ z. BitsFit p (bits_from end z
 last_fits (block_comment s n k) at p end ps f h = absurd (no_ok _ ps h)
 last_fits (in_name s t) at p end ps f h = subst (λ z. BitsFit p (bits_from end z)) (of_ok (piece (a_name t) s at ∷ []) ps h) (refl, by p, tt) where
   by : (p : Option ℕ) → ((s == end) && meet p None) ≡ false
-  by None = and_no (s == end)
-  by (Some x) = and_no (s == end)
+  by None = and-false (s == end)
+  by (Some x) = and-false (s == end)
 last_fits (in_number s t d) at p end ps f h = by (is_whole_number d) h where
   no : (p : Option ℕ) → ((s == end) && meet p None) ≡ false
-  no None = and_no (s == end)
-  no (Some x) = and_no (s == end)
+  no None = and-false (s == end)
+  no (Some x) = and-false (s == end)
 
   by : (b : Bool) → (let r : Result (List Piece) Fault = if b then Ok (piece (a_number t) s at ∷ []) else Err (no_number s) in r) ≡ Ok ps → BitsFit p (bits_from end ps)
   by true g = subst (λ z. BitsFit p (bits_from end z)) (of_ok (piece (a_number t) s at ∷ []) ps g) (refl, no p, tt)

@@ -6,10 +6,7 @@ use Rattle.wesl_tree_syntax.specs.Unit.{begins_void, without_voids}
 use Rattle.wesl_tree_syntax.specs.View.{global_view, placed}
 use Rattle.wesl_tree_syntax.specs.declared.span.Spanned.{Spanned}
 use Rattle.wesl_tree_syntax.specs.declared.declaration.GlobalDeclaration.{GlobalDeclaration}
-
-both : (a b : Bool) → (a && b) ≡ true → (a ≡ true) × (b ≡ true)
-both true b h = (refl, h)
-both false b h = cc
+use Rattle.std.proofs.lemmas.Bool.{and_parts}
 
 abbrev pub node_tree : Spanned GlobalDeclaration → Tree
 node_tree = placed global_view declaration_node
@@ -29,9 +26,9 @@ kept_forest (x ∷ xs) = kept_next (begins_void (forest_of (global_view x.node �
 
 below_next : (n : ℕ) (void : Bool) (l : Label) (children others kept : Forest) → (label_below n l && forest_below n children && forest_below n others) ≡ true → (forest_below n others ≡ true → forest_below n kept ≡ true)
     → forest_below n (if void then kept else tree l children kept) ≡ true
-below_next n true l children others kept h k = k (both (label_below n l && forest_below n children) (forest_below n others) h).1
+below_next n true l children others kept h k = k (and_parts (label_below n l && forest_below n children) (forest_below n others) h).1
 below_next n false l children others kept h k =
-    let parts = both (label_below n l && forest_below n children) (forest_below n others) h in
+    let parts = and_parts (label_below n l && forest_below n children) (forest_below n others) h in
     rw (parts.0, k parts.1) refl
 
 -- without voids, the identifiers stay below
@@ -41,5 +38,5 @@ kept_below n (tree l children others) h = below_next n (begins_void children) l 
 
 pub still_within : (imports directives : Bool) (n : ℕ) (f kept : Forest) → IsTrue (imports && directives && forest_below n f) → kept ≡ without_voids f → IsTrue (imports && directives && forest_below n kept)
 still_within imports directives n f kept h e =
-    let parts = both (imports && directives) (forest_below n f) h in
+    let parts = and_parts (imports && directives) (forest_below n f) h in
     rw (e, parts.0, kept_below n f parts.1) refl

@@ -4,6 +4,7 @@ use Rattle.std.proofs.lemmas.List.{drop_all}
 use Rattle.wesl_tree_syntax.specs.Tree.{Kind, Tree, forest_of, forest_below, tree_below}
 use Rattle.wesl_tree_syntax.specs.View.{placed}
 use Rattle.wesl_tree_syntax.specs.declared.span.Spanned.{Spanned}
+use mathlib.Core.Bool.{and-false, and-true}
 
 module _ {A : Type 0} (view : A → Tree) (n : ℕ) where
   abbrev pub all_below : List A → Bool
@@ -24,19 +25,11 @@ module _ {A : Type 0} (view : A → Tree) (n : ℕ) where
   pub end_below : (xs ys : List A) (i : ℕ) → length xs ≤ i → xs ≡ ys → all_below xs ≡ all_below (drop i xs) → true ≡ all_below ys
   end_below xs ys i h e seen = sym (sym (ap all_below e) ∙ seen ∙ ap all_below (drop_all i xs h))
 
-pub and_true : (b : Bool) → (b && true) ≡ b
-and_true true = refl
-and_true false = refl
-
 -- a node with its span lies below where it does
 pub placed_below : {A : Type 0} (view : A → Tree) (k : Kind) (n : ℕ) (x : Spanned A) → tree_below n (placed view k x) ≡ tree_below n (view x.node)
-placed_below view k n x = and_true (tree_below n (view x.node))
+placed_below view k n x = and-true (tree_below n (view x.node))
 
-pub and_false : (b : Bool) → (b && false) ≡ false
-and_false true = refl
-and_false false = refl
-
-pub ruleset steps = (and_true, and_false)
+pub ruleset steps = (and-true, and-false)
 
 -- a test past one that holds, and past one that does not
 pub past_true : (a b : Bool) → a ≡ true → (a && b) ≡ b
@@ -49,7 +42,7 @@ past_false false b h = refl
 
 -- four tests, as trees join them and as code does
 pub four : (a b c d : Bool) → (a && (b && (c && (d && true)))) ≡ (((a && b) && c) && d)
-four true true true d = and_true d
+four true true true d = and-true d
 four true true false d = refl
 four true false c d = refl
 four false b c d = refl

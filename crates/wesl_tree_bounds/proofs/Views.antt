@@ -16,16 +16,17 @@ use Rattle.wesl_tree_syntax.specs.declared.expression.TemplateArg.{TemplateArg, 
 use Rattle.wesl_tree_syntax.specs.declared.expression.Expression.TheFolds.{fold_out-TemplateArg}
 use Rattle.wesl_tree_syntax.specs.declared.import.Import.{Import, out-Import}
 use Rattle.wesl_tree_syntax.specs.declared.import.ImportContent.TheFolds.{fold_out-Import}
-use Rattle.wesl_tree_bounds.proofs.Below.{and_true, four}
+use Rattle.wesl_tree_bounds.proofs.Below.{four}
 use Rattle.wesl_tree_syntax.proofs.Views.{view_if, view_switch}
+use mathlib.Core.Bool.{and-true}
 
 -- an argument lies below where its expression does
 pub argument_below : (n : ℕ) (a : TemplateArg) → tree_below n (argument_view a) ≡ tree_below n (expression_tree (out-TemplateArg a).expression)
-argument_below n a = ap (tree_below n) (fold_out-TemplateArg Tree Tree Tree Tree expression_step call_step argument_step type_step a) ∙ and_true _
+argument_below n a = ap (tree_below n) (fold_out-TemplateArg Tree Tree Tree Tree expression_step call_step argument_step type_step a) ∙ and-true _
 
 -- an entry lies below where its content does
 pub entry_below : (n : ℕ) (i : Import) → tree_below n (entry_view i) ≡ tree_below n (content_view (out-Import i).content)
-entry_below n i = ap (tree_below n) (fold_out-Import Tree Tree content_step entry_step i) ∙ and_true _
+entry_below n i = ap (tree_below n) (fold_out-Import Tree Tree content_step entry_step i) ∙ and-true _
 
 -- the tests of a statement with `if`, and of one with `switch`
 pub if_below : (n : ℕ) (s : Statement) (a : Vec (Spanned Attribute)) (i : IfClause) (es : Vec ElseIfClause) (e : Option ElseClause) → s ≡ made.If a i es e

@@ -1,12 +1,4 @@
 -- Facts on tests.
-use Rattle.std.proofs.Common.{◌≡◌, Bool, true, false, ◌&&◌, refl}
+use mathlib.Core.Bool.{and-false, and-true}
 
-pub and_true : (b : Bool) → (b && true) ≡ b
-and_true true = refl
-and_true false = refl
-
-pub and_false : (b : Bool) → (b && false) ≡ false
-and_false true = refl
-and_false false = refl
-
-pub ruleset steps = (and_true, and_false)
+pub ruleset steps = (and-true, and-false)

@@ -3,10 +3,10 @@ use Rattle.std.proofs.Common.{◌≡◌, ℕ, Bool, true, false, ◌&&◌, sym, 
 use Rattle.wesl_tree_names.specs.Path.{Text}
 use Rattle.wesl_tree_syntax.specs.Kinds.{same_kind}
 use Rattle.wesl_tree_syntax.specs.Tree.{Forest, Kind, Label, Tree, before, end, kind}
-use Rattle.wesl_tree_spelling.proofs.Bools.{and_true}
 use Rattle.wesl_tree_spelling.specs.Same.{same_forest, same_label, same_tree}
 use Rattle.wesl_tree_spelling.specs.Tables.{naming, same_in}
 use Rattle.wesl_tree_spelling.specs.declared.tables.Tables.{Tables}
+use mathlib.Core.Bool.{and-true}
 
 -- what the left table calls identifiers, and what the right one calls them
 abbrev pub left_by : Tables → ℕ → Text
@@ -33,7 +33,7 @@ module _ {places : Bool} {f g : ℕ → Text} where
   stop {ts = ts} {us = us} e n = record { is = n ∙ ap (λ b. b && same_forest places f g ts us) (sym n ∙ e) }
 
   pub last : {a : Bool} {t u : Tree} → a ≡ same_tree places f g t u → Alike places f g a (before t end) (before u end)
-  last e = record { is = e ∙ sym (and_true _) }
+  last e = record { is = e ∙ sym (and-true _) }
 
   -- a node of such parts
   pub of_kind : (k : Kind) {r : Bool} {ts us : Forest} → same_kind k k ≡ true → Alike places f g r ts us → Same places f g r (record { label = kind k; children = ts }) (record { label = kind k; children = us })

@@ -3,11 +3,11 @@ use Rattle.std.proofs.Common.{◌≡◌, ℕ, ◌+◌, ◌<◌, ◌≤◌, Bool,
 use Rattle.std.proofs.lemmas.List.{drop_all}
 use Rattle.std.specs.Vec.{vec_len}
 use Rattle.wesl_tree_syntax.specs.Tree.{Tree, forest_of}
-use Rattle.wesl_tree_spelling.proofs.Bools.{and_false}
 use Rattle.wesl_tree_spelling.proofs.Chains.{left_by, right_by}
 use Rattle.wesl_tree_spelling.specs.Same.{same_forest, same_texts}
 use Rattle.wesl_tree_spelling.specs.Tables.{same_in}
 use Rattle.wesl_tree_spelling.specs.declared.tables.Tables.{Tables}
+use mathlib.Core.Bool.{and-false}
 
 -- a test of two lists, which goes on pair by pair
 module _ {A : Type 0} (agree : List A → List A → Bool) where
@@ -24,7 +24,7 @@ module _ {A : Type 0} (view : A → Tree) (tables : Tables) where
   lengths [] [] h = absurd (h refl)
   lengths [] (y ∷ ys) h = refl
   lengths (x ∷ xs) [] h = refl
-  lengths (x ∷ xs) (y ∷ ys) h = rw (lengths xs ys (λ e. h (ap suc e))) (and_false _)
+  lengths (x ∷ xs) (y ∷ ys) h = rw (lengths xs ys (λ e. h (ap suc e))) (and-false _)
 
   next : (xs ys : List A) (i : ℕ) (x y : A) → i < length xs → i < length ys → x ≡ get_or xs i x → y ≡ get_or ys i y
       → all_same (drop i xs) (drop i ys) ≡ same_in tables (view x) (view y) && all_same (drop (i + 1) xs) (drop (i + 1) ys)
@@ -59,7 +59,7 @@ pub agree_lengths : (xs ys : List (String Global)) → (length xs ≡ length ys 
 agree_lengths [] [] h = absurd (h refl)
 agree_lengths [] (y ∷ ys) h = refl
 agree_lengths (x ∷ xs) [] h = refl
-agree_lengths (x ∷ xs) (y ∷ ys) h = rw (agree_lengths xs ys (λ e. h (ap suc e))) (and_false _)
+agree_lengths (x ∷ xs) (y ∷ ys) h = rw (agree_lengths xs ys (λ e. h (ap suc e))) (and-false _)
 
 pub agree_next : (xs ys : List (String Global)) (i : ℕ) (x y : String Global) → i < length xs → i < length ys → x ≡ get_or xs i x → y ≡ get_or ys i y
     → agree (drop i xs) (drop i ys) ≡ bytes_eq (string_bytes x) (string_bytes y) && agree (drop (i + 1) xs) (drop (i + 1) ys)

@@ -7,7 +7,6 @@ use Rattle.std.specs.Cmp.{booleans_Decides}
 use denote.Enum.Bare.{same_true, true_same}
 use Rattle.wesl_tree_syntax.specs.Tree.{Kind, Role, Label, LabelOf, Forest, TreeOf, end, tree, binder, reference, word, Tree, kind, at, ident, text, texts, truth, unary, binary, assignment, space, access, path, expression_node, statement_node, attribute_node, member_node, import_node, directive_node, declaration_node, literal, parenthesized, named_component, indexing, call_expression, call, type_or_identifier, type_expression, template_argument, list, present, absent, attributes, statements, clauses, members, parameters, align, binding, blend_src, builtin, const_attribute, diagnostic, group, id, interpolate, invariant_attribute, location, must_use, size, workgroup_size, vertex, fragment, compute, publish, if_attribute, elif_attribute, else_attribute, custom, void, compound_statement, compound, increment, decrement, if_statement, if_clause, else_if_clause, else_clause, switch, switch_clause, default_case, expression_case, loop, continuing, break_if, for_loop, while_loop, break, continue, return, discard, call_statement, const_assert, import_statement, import_item, import_collection, import_entry, diagnostic_directive, enable_directive, requires_directive, type_alias, struct, member, function, parameter, declaration, const_kind, override_kind, let_kind, var_kind, imports, directive_list, declarations, unit}
 use Rattle.wesl_tree_syntax.specs.Shown.{shown, shown_label, shown_forest}
-use Rattle.wesl_tree_spelling.proofs.Bools.{and_true}
 use Rattle.wesl_tree_names.specs.Path.{Text, Origin, Path, absolute, relative, from_package, same_origin}
 use Rattle.wesl_tree_syntax.specs.Kinds.{same_kind, kind_number, same_role, role_number}
 use Rattle.wesl_tree_spelling.specs.Same.{same_texts, same_path, same_span, same_label, same_forest, same_tree}
@@ -16,6 +15,7 @@ use Rattle.wesl_tree_syntax.specs.contracts.expression.BinaryOperator as binary_
 use Rattle.wesl_tree_syntax.specs.contracts.statement.AssignmentOperator as assignment_operator
 use Rattle.wesl_tree_syntax.specs.contracts.declaration.AddressSpace as address_space
 use Rattle.wesl_tree_syntax.specs.contracts.declaration.AccessMode as access_mode
+use mathlib.Core.Bool.{and-true}
 
 -- the kinds in the order of their numbers
 kind_at : ℕ → Kind
@@ -166,7 +166,7 @@ at_Decides : (places : Bool) (a b : Kind) (s t u v : ℕ) → Decides (same_kind
 at_Decides true a b s t u v =
     along (and_Decides _ _ (kinds_Decides a b) (and_Decides _ _ (Decides-eqb s u) (Decides-eqb t v))) (λ h. let p = h.0 in let q = h.1.0 in let r = h.1.1 in cc (p, q, r))
     (λ e. (let p : a ≡ b = cc in p, (let q : s ≡ u = cc in q, let r : t ≡ v = cc in r)))
-at_Decides false a b s t u v = rw (and_true (same_kind a b)) (along (kinds_Decides a b) (λ e. ap (λ k. let l : LabelOf Text = at k 0 0 in l) e) (λ e. let p : a ≡ b = cc in p))
+at_Decides false a b s t u v = rw (and-true (same_kind a b)) (along (kinds_Decides a b) (λ e. ap (λ k. let l : LabelOf Text = at k 0 0 in l) e) (λ e. let p : a ≡ b = cc in p))
 
 module _ (places : Bool) (f g : ℕ → Text) where
   label_Decides : (l m : Label) → Decides (same_label places f g l m) (shown_label places f l ≡ shown_label places g m)

@@ -22,9 +22,9 @@ use Rattle.wesl_tree_syntax.specs.declared.statement.Statement as made
 use Rattle.wesl_tree_syntax.specs.declared.statement.Statement.TheFolds.{fold-roll-Statement}
 use Rattle.wesl_tree_syntax.specs.declared.statement.Statement.TheOpen.{Statement-F}
 use Rattle.wesl_tree_syntax.specs.declared.statement.Statement.TheViews.{roll-out-Statement, rolls-Void, rolls-Compound, rolls-Assignment, rolls-Increment, rolls-Decrement, rolls-If, rolls-Switch, rolls-Loop, rolls-For, rolls-While, rolls-Break, rolls-Continue, rolls-Return, rolls-Discard, rolls-FunctionCall, rolls-ConstAssert, rolls-Declaration}
-use Rattle.wesl_tree_spelling.proofs.Bools.{and_false}
 use Rattle.wesl_tree_spelling.specs.Groups.{is_jump, is_step, is_action, is_if, is_switch, is_plain_loop, is_for}
 use Rattle.wesl_tree_spelling.specs.Same.{same_label, same_tree}
+use mathlib.Core.Bool.{and-false}
 
 abbrev Attributes : Type 0
 Attributes = Vec (Spanned Attribute) Global
@@ -89,7 +89,7 @@ pub group_left : (test : Label → Bool) (s : Tree) (b : Bool) → test s.label 
 group_left test s b h = rw h refl
 
 pub group_right : (test : Label → Bool) (s : Tree) (b : Bool) → false ≡ b → false ≡ (test s.label && b)
-group_right test s b h = rw (← h) (sym (and_false _))
+group_right test s b h = rw (← h) (sym (and-false _))
 
 module _ (places : Bool) (f g : ℕ → Text) where
   differs_Void : (layer : Layer) → (layer ≡ Statement-F.Void → ⊥) → same_label places f g (kind void) (label_at layer) ≡ false

@@ -3,7 +3,7 @@ use Rattle.std.proofs.Common.{◌≡◌, ◌⊎◌, ◌↔◌, ℕ, ◌<◌, ◌
 use Rattle.std.specs.Prelude.{Option, Some, None}
 use Rattle.std.specs.List.{Contains, list_any}
 use Rattle.std.specs.Option.{option_map}
-use Rattle.std.proofs.lemmas.Bool.{cases_lt}
+use Rattle.std.proofs.lemmas.Bool.{cases_lt, or_left, or_right}
 use Rattle.std.proofs.lemmas.Bool.Decides.{Decides-eqb}
 use Rattle.wesl_tree_names.specs.Path.{Text}
 use Rattle.wesl_scope_graph.specs.Graphs.{Reached}
@@ -18,7 +18,7 @@ use Rattle.wesl_validate_calls.specs.Judged.{count_at, ends_at}
 use Rattle.wesl_validate_calls.specs.Tables.{Tables}
 use Rattle.wesl_validate_rules.specs.Calls.{CallOf}
 use Rattle.wesl_validate_calls.specs.declared.misfit.Misfit.TheVariants as misfit
-use Rattle.wesl_validate_calls.proofs.Judging.{no, either_of, left_of, right_of}
+use Rattle.wesl_validate_calls.proofs.Judging.{no, either_of}
 use Rattle.wesl_validate_calls.proofs.Searching.{any_from, any_to}
 use Rattle.wesl_validate_calls.proofs.Taking.{past}
 
@@ -123,14 +123,14 @@ module _ (t : Tables) (names : List Text) (b : BuiltinNames) (closed : IsClosed 
     found_fits h = by (either_of (list_any (λ x. x == c.arguments) (edges_at ends.taken c.callee)) (mark_at ends.any_count c.callee || is_builtin_at t names b c.callee) h)
       where
         took : LeadsToOne t.aliases (takes_count_at t c.arguments) c.callee → FitsAt t names b c
-        took (e, r, q) = (e, r, left_of (takes_count_at t c.arguments e) (is_open_at t names b e) q)
+        took (e, r, q) = (e, r, or_left (takes_count_at t c.arguments e) (is_open_at t names b e) q)
 
         opened : LeadsToOne t.aliases (is_open_at t names b) c.callee → FitsAt t names b c
-        opened (e, r, q) = (e, r, right_of (takes_count_at t c.arguments e) (is_open_at t names b e) q)
+        opened (e, r, q) = (e, r, or_right (takes_count_at t c.arguments e) (is_open_at t names b e) q)
 
         later : (mark_at ends.any_count c.callee ≡ true) ⊎ (is_builtin_at t names b c.callee ≡ true) → FitsAt t names b c
         later (inl q) = opened (are.opened.sound c.callee q)
-        later (inr q) = opened (c.callee, itself c.callee, right_of (opens_at t c.callee) (is_builtin_at t names b c.callee) q)
+        later (inr q) = opened (c.callee, itself c.callee, or_right (opens_at t c.callee) (is_builtin_at t names b c.callee) q)
 
         by : (list_any (λ x. x == c.arguments) (edges_at ends.taken c.callee) ≡ true) ⊎ ((mark_at ends.any_count c.callee || is_builtin_at t names b c.callee) ≡ true) → FitsAt t names b c
         by (inl q) = took ((are.taken c.callee c.arguments).0 (holds c.callee c.arguments q))
@@ -140,12 +140,12 @@ module _ (t : Tables) (names : List Text) (b : BuiltinNames) (closed : IsClosed 
     fits_found (e, r, h) = by (either_of (takes_count_at t c.arguments e) (is_open_at t names b e) h)
       where
         later : (mark_at ends.any_count c.callee ≡ true) ⊎ (is_builtin_at t names b c.callee ≡ true) → (mark_at ends.any_count c.callee || is_builtin_at t names b c.callee) ≡ true
-        later (inl q) = left_of (mark_at ends.any_count c.callee) (is_builtin_at t names b c.callee) q
-        later (inr q) = right_of (mark_at ends.any_count c.callee) (is_builtin_at t names b c.callee) q
+        later (inl q) = or_left (mark_at ends.any_count c.callee) (is_builtin_at t names b c.callee) q
+        later (inr q) = or_right (mark_at ends.any_count c.callee) (is_builtin_at t names b c.callee) q
 
         by : (takes_count_at t c.arguments e ≡ true) ⊎ (is_open_at t names b e ≡ true) → is_found t names b ends c ≡ true
-        by (inl q) = left_of (list_any (λ x. x == c.arguments) (edges_at ends.taken c.callee)) (mark_at ends.any_count c.callee || is_builtin_at t names b c.callee) (held c.callee c.arguments ((are.taken c.callee c.arguments).1 (e, r, q)))
-        by (inr q) = right_of (list_any (λ x. x == c.arguments) (edges_at ends.taken c.callee)) (mark_at ends.any_count c.callee || is_builtin_at t names b c.callee) (later (are.opened.whole c.callee (e, r, q)))
+        by (inl q) = or_left (list_any (λ x. x == c.arguments) (edges_at ends.taken c.callee)) (mark_at ends.any_count c.callee || is_builtin_at t names b c.callee) (held c.callee c.arguments ((are.taken c.callee c.arguments).1 (e, r, q)))
+        by (inr q) = or_right (list_any (λ x. x == c.arguments) (edges_at ends.taken c.callee)) (mark_at ends.any_count c.callee || is_builtin_at t names b c.callee) (later (are.opened.whole c.callee (e, r, q)))
 
     -- what is told of a call that fits nothing
     module _ (unfit : FitsAt t names b c → ⊥) where

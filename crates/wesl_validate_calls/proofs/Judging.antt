@@ -1,5 +1,5 @@
 -- What tables say of a call is so.
-use Rattle.std.proofs.Common.{◌≡◌, ◌⊎◌, ℕ, ◌||◌, ◌&&◌, not, Bool, true, false, List, [], ◌∷◌, refl, sym, ap, ◌∙◌, inl, inr}
+use Rattle.std.proofs.Common.{◌≡◌, ◌⊎◌, ℕ, ◌||◌, not, Bool, true, false, List, [], ◌∷◌, refl, sym, ap, ◌∙◌, inl, inr}
 use Rattle.std.specs.Prelude.{Option, Some, None}
 use Rattle.std.specs.List.{Contains, list_any}
 use Rattle.wesl_tree_syntax.specs.Unit.{UnitView, name_in}
@@ -19,6 +19,7 @@ use Rattle.wesl_validate_calls.specs.declared.misfit.Misfit.{Misfit}
 use Rattle.wesl_validate_calls.specs.declared.misfit.Misfit.TheVariants as misfit
 use Rattle.wesl_validate_calls.proofs.Members.{contains_none, contains_here}
 use Rattle.wesl_validate_calls.proofs.Searching.{any_from, any_to, some_from, none_from, same_first}
+use Rattle.std.proofs.lemmas.Bool.{and_from, and_parts, not_from_false, or_left, or_right}
 
 pub no : {P : Type 0} → false ≡ true → P
 no e = absurd (let f : false ≡ true = e in cc)
@@ -33,26 +34,9 @@ negated : (t : Bool) → not t ≡ true → t ≡ false
 negated true e = no e
 negated false e = refl
 
-to_negated : (t : Bool) → t ≡ false → not t ≡ true
-to_negated t e = ap not e
-
 pub either_of : (s t : Bool) → (s || t) ≡ true → (s ≡ true) ⊎ (t ≡ true)
 either_of true t e = inl refl
 either_of false t e = inr e
-
-pub left_of : (s t : Bool) → s ≡ true → (s || t) ≡ true
-left_of s t e = rw e refl
-
-pub right_of : (s t : Bool) → t ≡ true → (s || t) ≡ true
-right_of true t e = refl
-right_of false t e = e
-
-both_of : (s t : Bool) → (s && t) ≡ true → (s ≡ true) × (t ≡ true)
-both_of true t e = (refl, e)
-both_of false t e = no e
-
-and_of : (s t : Bool) → s ≡ true → t ≡ true → (s && t) ≡ true
-and_of s t e f = rw e f
 
 count_from : (s : ShapeOf ℕ) (k : ℕ) → count_of s ≡ Some k → (s ≡ function_with k) ⊎ (s ≡ struct_with k)
 count_from (function_with n) k e = inl (ap function_with (some_inside n k e))
@@ -138,10 +122,10 @@ module _ (u : UnitView) (t : Tables) (a : AreTables u t) where
 
   ends_to : (e : ℕ) → IsEnd u e → ends_at t e ≡ true
   ends_to e (inl (j, d, h)) =
-      right_of (is_empty (edges_at t.declarers e)) (list_any (λ i. not (is_plain_alias (shape_at t.shapes i))) (edges_at t.declarers e))
-      (any_to (λ i. not (is_plain_alias (shape_at t.shapes i))) (edges_at t.declarers e) j ((a.declared e j).1 d) (to_negated (is_plain_alias (shape_at t.shapes j)) (ap is_plain_alias (a.shaped j) ∙ h)))
+      or_right (is_empty (edges_at t.declarers e)) (list_any (λ i. not (is_plain_alias (shape_at t.shapes i))) (edges_at t.declarers e))
+      (any_to (λ i. not (is_plain_alias (shape_at t.shapes i))) (edges_at t.declarers e) j ((a.declared e j).1 d) (not_from_false (is_plain_alias (shape_at t.shapes j)) (ap is_plain_alias (a.shaped j) ∙ h)))
   ends_to e (inr f) =
-      left_of (is_empty (edges_at t.declarers e)) (list_any (λ i. not (is_plain_alias (shape_at t.shapes i))) (edges_at t.declarers e))
+      or_left (is_empty (edges_at t.declarers e)) (list_any (λ i. not (is_plain_alias (shape_at t.shapes i))) (edges_at t.declarers e))
       (something_in (edges_at t.declarers e) (λ j c. f j ((a.declared e j).0 c)))
 
   counts_at_from : (e : ℕ) → counts_at t e ≡ true → (k : ℕ) × (count_at t e ≡ Some k)
@@ -164,7 +148,7 @@ module _ (u : UnitView) (t : Tables) (a : AreTables u t) where
       where
         built : is_builtin_at t u.names b e ≡ true → Accepts u b c e
         built q =
-            let s = both_of (not (mark_at t.bound e)) (is_callable b (name_in u.names e)) q in
+            let s = and_parts (not (mark_at t.bound e)) (is_callable b (name_in u.names e)) q in
             inr (sym (a.bounded e) ∙ negated (mark_at t.bound e) s.0, s.1)
 
         opened : (opens_at t e ≡ true) ⊎ (is_builtin_at t u.names b e ≡ true) → Accepts u b c e
@@ -179,12 +163,12 @@ module _ (u : UnitView) (t : Tables) (a : AreTables u t) where
     accepts_to c e (inl s) = by (takes_to c e s)
       where
         by : (takes_count_at t c e ≡ true) ⊎ (opens_at t e ≡ true) → accepts_at t u.names b c e ≡ true
-        by (inl q) = left_of (takes_count_at t c e) (is_open_at t u.names b e) q
-        by (inr q) = right_of (takes_count_at t c e) (is_open_at t u.names b e) (left_of (opens_at t e) (is_builtin_at t u.names b e) q)
+        by (inl q) = or_left (takes_count_at t c e) (is_open_at t u.names b e) q
+        by (inr q) = or_right (takes_count_at t c e) (is_open_at t u.names b e) (or_left (opens_at t e) (is_builtin_at t u.names b e) q)
     accepts_to c e (inr s) =
-        right_of (takes_count_at t c e) (is_open_at t u.names b e)
-        (right_of (opens_at t e) (is_builtin_at t u.names b e)
-        (and_of (not (mark_at t.bound e)) (is_callable b (name_in u.names e)) (to_negated (mark_at t.bound e) (a.bounded e ∙ s.0)) s.1))
+        or_right (takes_count_at t c e) (is_open_at t u.names b e)
+        (or_right (opens_at t e) (is_builtin_at t u.names b e)
+        (and_from (not (mark_at t.bound e)) (is_callable b (name_in u.names e)) (not_from_false (mark_at t.bound e) (a.bounded e ∙ s.0)) s.1))
 
     fits_from : (c : CallOf ℕ) → FitsAt t u.names b c → Fits u b c
     fits_from c (e, r, h) = (e, to_aliases c.callee e r, accepts_from c.arguments e h)

@@ -3,14 +3,14 @@ use Rattle.std.proofs.Common.{◌≡◌, ◌⊎◌, ◌↔◌, ℕ, zero, suc, �
 use Rattle.std.specs.Prelude.{if◌then◌else◌, Option, Some, None}
 use Rattle.std.specs.List.{Contains, list_any}
 use Rattle.std.proofs.Math.ListN.{get_or-append}
-use Rattle.std.proofs.lemmas.Bool.{cases_lt}
+use Rattle.std.proofs.lemmas.Bool.{cases_lt, or_left, or_right}
 use Rattle.std.proofs.lemmas.Bool.Decides.{Decides-eqb}
 use Rattle.std.proofs.lemmas.List.{take_more}
 use Rattle.std.proofs.lemmas.List.Elements.{Contains-append_cases, Contains-append_left, Contains-append_right}
 use Rattle.wesl_tree_names.specs.Path.{Text}
 use Rattle.wesl_validate_builtins.specs.Builtins.{BuiltinNames}
 use Rattle.wesl_scope_strip.specs.Marks.{mark_at}
-use Rattle.wesl_scope_strip.proofs.Marking.{or_assoc, or_false}
+use Rattle.wesl_scope_strip.proofs.Marking.{or_assoc}
 use Rattle.wesl_scope_values.specs.Values.{value_at}
 use Rattle.wesl_scope_values.proofs.Edges.{below_next, inside}
 use Rattle.wesl_validate_rules.specs.Graphs.{Graph, graph_view, edges_at, Leads}
@@ -18,9 +18,10 @@ use Rattle.wesl_validate_rules.specs.Calls.{ShapeOf, function_with, struct_with}
 use Rattle.wesl_validate_calls.specs.Ends.{takes_count, is_open, opens_at, is_builtin_at, is_open_at, AreOpen, takes_count_at, counts_at, is_count, IsEnder, AddsTaker, AddsTakers, AddsItself}
 use Rattle.wesl_validate_calls.specs.Judged.{count_of, count_at, ends_at}
 use Rattle.wesl_validate_calls.specs.Tables.{Tables, shape_at}
-use Rattle.wesl_validate_calls.proofs.Judging.{no, either_of, left_of, right_of}
+use Rattle.wesl_validate_calls.proofs.Judging.{no, either_of}
 use Rattle.wesl_validate_calls.proofs.Members.{contains_none, contains_here, contains_cases}
 use Rattle.wesl_validate_calls.proofs.Searching.{any_from, some_from}
+use mathlib.Core.Bool.{or-false}
 
 -- one more edge
 pub edge : (g h : Graph) (from to : ℕ) → ((a : ℕ) → edges_at h a ≡ edges_at g a ++ (if from == a then to ∷ [] else [])) → (a b : ℕ) → Leads h a b ↔ (Leads g a b ⊎ ((from ≡ a) × (to ≡ b)))
@@ -62,11 +63,11 @@ adds_struct count n g k h first second c e = (λ l. there ((edge k h 0 n second 
   where
     sooner : Leads g c e ⊎ ((count ≡ c) × (n ≡ e)) → Leads g c e ⊎ ((n ≡ e) × ((c == count || c == 0) ≡ true))
     sooner (inl l) = inl l
-    sooner (inr p) = inr (p.1, left_of (c == count) (c == 0) ((Decides-eqb c count).1 (sym p.0)))
+    sooner (inr p) = inr (p.1, or_left (c == count) (c == 0) ((Decides-eqb c count).1 (sym p.0)))
 
     there : Leads k c e ⊎ ((0 ≡ c) × (n ≡ e)) → Leads g c e ⊎ ((n ≡ e) × ((c == count || c == 0) ≡ true))
     there (inl l) = sooner ((edge g k count n first c e).0 l)
-    there (inr p) = inr (p.1, right_of (c == count) (c == 0) ((Decides-eqb c 0).1 (sym p.0)))
+    there (inr p) = inr (p.1, or_right (c == count) (c == 0) ((Decides-eqb c 0).1 (sym p.0)))
 
     last : n ≡ e → ((c == count) ≡ true) ⊎ ((c == 0) ≡ true) → Leads h c e
     last q (inl t) = (edge k h 0 n second c e).1 (inl ((edge g k count n first c e).1 (inr (sym ((Decides-eqb c count).0 t), q))))
@@ -84,7 +85,7 @@ adds_nothing s n g none c e = (λ l. inl l, by)
     by (inr p) = no (sym (none c) ∙ p.1)
 
 any_push : (p : ℕ → Bool) (xs : List ℕ) (x : ℕ) → list_any p (xs ++ x ∷ []) ≡ (list_any p xs || p x)
-any_push p [] x = or_false (p x)
+any_push p [] x = or-false (p x)
 any_push p (y ∷ xs) x = ap (λ t. p y || t) (any_push p xs x) ∙ sym (or_assoc (p y) (list_any p xs) (p x))
 
 module _ (shapes : List (ShapeOf ℕ)) (n : ℕ) where
@@ -106,11 +107,11 @@ module _ (shapes : List (ShapeOf ℕ)) (n : ℕ) where
 
       sooner : Leads old c e ⊎ ((n ≡ e) × (list_any (here c) xs ≡ true)) → Leads old c e ⊎ ((n ≡ e) × (list_any (here c) (xs ++ j ∷ []) ≡ true))
       sooner (inl l) = inl l
-      sooner (inr p) = inr (p.0, all ∙ left_of (list_any (here c) xs) (here c j) p.1)
+      sooner (inr p) = inr (p.0, all ∙ or_left (list_any (here c) xs) (here c j) p.1)
 
       there : Leads now c e ⊎ ((n ≡ e) × (here c j ≡ true)) → Leads old c e ⊎ ((n ≡ e) × (list_any (here c) (xs ++ j ∷ []) ≡ true))
       there (inl l) = sooner ((s c e).0 l)
-      there (inr p) = inr (p.0, all ∙ right_of (list_any (here c) xs) (here c j) p.1)
+      there (inr p) = inr (p.0, all ∙ or_right (list_any (here c) xs) (here c j) p.1)
 
       last : n ≡ e → (list_any (here c) xs ≡ true) ⊎ (here c j ≡ true) → Leads new c e
       last q (inl t) = (one c e).1 (inl ((s c e).1 (inr (q, t))))

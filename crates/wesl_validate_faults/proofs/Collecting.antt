@@ -13,6 +13,7 @@ use Rattle.wesl_validate_faults.specs.Gathered.{finding_view, findings_view, wit
 use Rattle.wesl_validate_faults.specs.Listed.{each_once}
 use Rattle.wesl_validate_faults.specs.declared.finding.Finding as code
 use Rattle.wesl_validate_faults.proofs.Equality.{findings_decide, finding_eq, finding_test}
+use mathlib.Core.Bool.{or-false}
 
 other_finding : (n m : Finding) → not (same_finding m n) ≡ true → n ≢ m
 other_finding n m h e = let f : same_finding m n ≡ true = (findings_decide m n).1 (sym e) in absurd (let z : ⊥ = cc in z)
@@ -80,10 +81,6 @@ not_both true false = refl
 not_both false true = refl
 not_both false false = refl
 
-or_false : (a : Bool) → (a || false) ≡ a
-or_false true = refl
-or_false false = refl
-
 next_finding : (seen : List Finding) (n : Finding) (ns : List Finding) → more seen (n ∷ ns) ≡ more (with_finding seen n) ns
 next_finding seen n ns = by (list_any (same_finding n) seen) refl
   where
@@ -102,7 +99,7 @@ next_finding seen n ns = by (list_any (same_finding n) seen) refl
     by false h =
         ap (λ ms. seen ++ n ∷ ms)
         (passes_both (λ m. not (same_finding m n)) new (λ m. not (list_any (same_finding m) (seen ++ n ∷ [])))
-        (λ m. not_both (same_finding m n) (list_any (same_finding m) seen) ∙ ap not (sym (list_any-append (same_finding m) seen (n ∷ []) ∙ ap (λ t. list_any (same_finding m) seen || t) (or_false (same_finding m n))))) (each_once ns))
+        (λ m. not_both (same_finding m n) (list_any (same_finding m) seen) ∙ ap not (sym (list_any-append (same_finding m) seen (n ∷ []) ∙ ap (λ t. list_any (same_finding m) seen || t) (or-false (same_finding m n))))) (each_once ns))
         ∙ sym (append_assoc seen (n ∷ []) (filter (λ m. not (list_any (same_finding m) (seen ++ n ∷ []))) (each_once ns)))
 
 -- ---- findings of the code

@@ -1,5 +1,5 @@
 -- What the list of findings promises.
-use Rattle.std.proofs.Common.{◌≡◌, ◌≢◌, ◌⊎◌, ◌↔◌, ℕ, Bool, true, false, ◌&&◌, List, [], ◌∷◌, ◌++◌, refl, sym, ap, ◌∙◌, subst, inl, inr, true≢false}
+use Rattle.std.proofs.Common.{◌≡◌, ◌≢◌, ◌⊎◌, ◌↔◌, ℕ, true, false, ◌&&◌, List, [], ◌∷◌, ◌++◌, refl, sym, ap, ◌∙◌, subst, inl, inr, true≢false}
 use Rattle.std.specs.Prelude.{Option, Some, None}
 use Rattle.std.specs.List.{AllPairs, Contains, filter}
 use Rattle.std.proofs.lemmas.List.Elements.{Contains-append_cases, Contains-append_left, Contains-append_right}
@@ -20,10 +20,7 @@ use Rattle.wesl_validate_faults.specs.Laws.{IsCauseTold, ListsWhatStands, ListsE
 use Rattle.wesl_validate_faults.specs.Listed.{each_once, repeated_after, IsFirst, module_numbers, ClosesCycle, AreCycles, cycle_by, duplicates, undefineds, AreFindings}
 use Rattle.wesl_validate_faults.proofs.Collecting.{of_once, once_apart, to_once}
 use Rattle.wesl_validate_faults.proofs.Repeated.{of_repeated, to_repeated}
-
-both : (a b : Bool) → (a && b) ≡ true → (a ≡ true) × (b ≡ true)
-both true b e = (refl, e)
-both false b e = cc
+use Rattle.std.proofs.lemmas.Bool.{and_parts}
 
 -- ---- the first of a list
 module _ (P : ℕ → Type 0) where
@@ -54,7 +51,7 @@ module _ (u : UnitView) where
   is_declared j m c =
       let s = from_mapped (λ (o : Occurrence ℕ). o.name) (filter (λ (o : Occurrence ℕ). is_module_name o.role && lies_in j o.declaration) (all u)) m c in
       let t = of_passing (λ (o : Occurrence ℕ). is_module_name o.role && lies_in j o.declaration) (all u) s.0 s.1.0 in
-      let p = both (is_module_name s.0.role) (lies_in j s.0.declaration) t.1 in
+      let p = and_parts (is_module_name s.0.role) (lies_in j s.0.declaration) t.1 in
       subst (Contains (module_numbers u)) s.1.1 (to_mapped (λ (o : Occurrence ℕ). o.name) (filter (λ (o : Occurrence ℕ). is_module_name o.role) (all u)) s.0 (to_passing (λ (o : Occurrence ℕ). is_module_name o.role) (all u) s.0 t.0 p.0))
 
   first_step : (a b : ℕ) → Reaches u a b → Contains (module_numbers u) a

@@ -11,6 +11,7 @@ use Rattle.wesl_tree_names.specs.Path.{Text}
 use Rattle.wesl_tree_interner.specs.Interned.{with_text}
 use Rattle.wesl_validate_rules.proofs.Finding.{contains_here, contains_later, contains_cases, contains_none}
 use Rattle.wesl_validate_free.specs.Free.{each_once}
+use mathlib.Core.Bool.{or-false}
 
 -- ---- those that pass
 module _ {A : Type 0} (p : A → Bool) where
@@ -124,10 +125,6 @@ not_both true false = refl
 not_both false true = refl
 not_both false false = refl
 
-or_false : (a : Bool) → (a || false) ≡ a
-or_false true = refl
-or_false false = refl
-
 -- a text goes last, unless it is there
 pub next_text : (seen : List Text) (n : Text) (ns : List Text) → more seen (n ∷ ns) ≡ more (with_text seen n) ns
 next_text seen n ns = by (list_any (bytes_eq n) seen) refl
@@ -147,5 +144,5 @@ next_text seen n ns = by (list_any (bytes_eq n) seen) refl
     by false h =
         ap (λ ms. seen ++ n ∷ ms)
         (passes_both (λ m. not (bytes_eq m n)) new (λ m. not (list_any (bytes_eq m) (seen ++ n ∷ [])))
-        (λ m. not_both (bytes_eq m n) (list_any (bytes_eq m) seen) ∙ ap not (sym (list_any-append (bytes_eq m) seen (n ∷ []) ∙ ap (λ t. list_any (bytes_eq m) seen || t) (or_false (bytes_eq m n))))) (each_once ns))
+        (λ m. not_both (bytes_eq m n) (list_any (bytes_eq m) seen) ∙ ap not (sym (list_any-append (bytes_eq m) seen (n ∷ []) ∙ ap (λ t. list_any (bytes_eq m) seen || t) (or-false (bytes_eq m n))))) (each_once ns))
         ∙ sym (append_assoc seen (n ∷ []) (filter (λ m. not (list_any (bytes_eq m) (seen ++ n ∷ []))) (each_once ns)))

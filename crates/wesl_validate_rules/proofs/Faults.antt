@@ -1,5 +1,5 @@
 -- A module with a fault is not valid, and one without a fault of the WESL part is valid.
-use Rattle.std.proofs.Common.{◌≡◌, ◌⊎◌, ℕ, Bool, true, false, Option, [], refl, sym, ap, ◌∙◌, subst, inl, inr, true≢false, get_or, string_bytes}
+use Rattle.std.proofs.Common.{◌≡◌, ◌⊎◌, ℕ, true, false, Option, [], refl, sym, ap, ◌∙◌, subst, inl, inr, true≢false, get_or, string_bytes}
 use Rattle.wesl_tree_names.specs.Path.{Text}
 use Rattle.wesl_tree_base.specs.declared.faults.ValidateError.{ValidateError}
 use Rattle.wesl_tree_base.specs.declared.faults.ValidateError.TheVariants as fault
@@ -10,6 +10,7 @@ use Rattle.wesl_validate_rules.specs.Calls.{CallOf, is_plain_alias}
 use Rattle.wesl_validate_rules.specs.Names.{plain_names}
 use Rattle.wesl_validate_rules.specs.Valid.{spelling, calls_of, AliasesTo, IsEnd, Fits, LeadsTo, Reaches, directly, onward, is_undefined, IsValidWesl, IsValidWgsl}
 use Rattle.wesl_validate_rules.specs.Faults.{name_of, name_round, IsUndefined, IsDuplicate, IsCycle, Counts, IsMisfit, IsMiscounted, IsNotCallable, IsWeslFault, IsWgslFault}
+use Rattle.std.proofs.lemmas.Bool.{false_from_ne_true}
 
 module _ (u : UnitView) where
   -- a chain and one more step
@@ -35,10 +36,6 @@ module _ (u : UnitView) where
       by : (c.first ≡ c.last) ⊎ Reaches u c.first c.last → Reaches u c.first c.first
       by (inl e) = directly c.first c.first (subst (λ x. LeadsTo u x c.first) (sym e) c.leads_back)
       by (inr r) = extended c.first c.last c.first r c.leads_back
-
-never_true : (t : Bool) → (t ≡ true → ⊥) → t ≡ false
-never_true true f = absurd (f refl)
-never_true false f = refl
 
 module _ (u : UnitView) (b : BuiltinNames) where
   undefined_refutes : (within : Option Text) (n : Text) → IsUndefined u b within n → IsValidWesl u b → ⊥
@@ -89,7 +86,7 @@ module _ (u : UnitView) (b : BuiltinNames) where
 
   pub faultless : ((within : Option Text) (n : Text) → IsUndefined u b within n → ⊥) → ((n : Text) → IsDuplicate u n → ⊥) → ((n via : Text) → IsCycle u n via → ⊥) → IsValidWesl u b
   faultless undefined duplicate cycle = record {
-    defined = λ o there. never_true (is_undefined u b o) (λ t. undefined (name_round u o.declaration) (spelling u o.name) (record { found = o; there = there; undefined = t; named = refl; round = refl }));
+    defined = λ o there. false_from_ne_true (is_undefined u b o) (λ t. undefined (name_round u o.declaration) (spelling u o.name) (record { found = o; there = there; undefined = t; named = refl; round = refl }));
     distinct = λ i j before inside e. duplicate (get_or (plain_names u) i []) (record { first = i; second = j; before = before; inside = inside; named = refl; again = sym e });
     acyclic = λ a r. let l = last_step u a a r in cycle (spelling u a) (spelling u l.0) (record { first = a; last = l.0; named = refl; named_last = refl; leads_there = l.1; leads_back = l.2 });
   }

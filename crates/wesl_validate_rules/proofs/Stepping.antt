@@ -13,6 +13,7 @@ use Rattle.wesl_scope_strip.specs.Declarations.{lies_in, declared_in, referred_i
 use Rattle.wesl_validate_rules.specs.Graphs.{Graph, edges_at, Leads}
 use Rattle.wesl_validate_rules.specs.Valid.{LeadsTo}
 use Rattle.wesl_validate_rules.specs.Steps.{referred_here, referred, used_by, steps_here, used_in, steps}
+use Rattle.std.proofs.lemmas.Bool.{and_from, and_parts}
 
 contains_none : {A : Type 0} (m : A) → Contains [] m → ⊥
 contains_none m c = let l : c.0 < 0 = c.1 in omega (arith, l)
@@ -30,14 +31,6 @@ contains_later x m xs c = (suc c.0, omega (arith, c.1), c.2)
 contains_cases : {A : Type 0} (x m : A) (xs : List A) → Contains (x ∷ xs) m → (x ≡ m) ⊎ Contains xs m
 contains_cases x m xs (zero, l, e) = inl e
 contains_cases x m xs (suc k, l, e) = inr (k, omega (arith, l), e)
-
-both : (a b : Bool) → (a && b) ≡ true → (a ≡ true) × (b ≡ true)
-both true true e = (refl, refl)
-both true false e = cc
-both false b e = cc
-
-and_true : (a b : Bool) → a ≡ true → b ≡ true → (a && b) ≡ true
-and_true a b e f = rw e f
 
 -- members of lists that are joined
 module _ {A B : Type 0} (f : A → List B) where
@@ -123,14 +116,14 @@ module _ (u : UnitView) (w : ℕ → Block) (os : List Found) (all_is : map (tol
   leads_to a b c =
       let s = from_joined (steps_here (used_in os) a) os b c in
       let t = from_if (is_module_name s.0.role && s.0.name == a) (used_in os s.0.declaration) b s.1.1 in
-      by s.0 s.1.0 (both (is_module_name s.0.role) (s.0.name == a) t.0) s.0.declaration refl t.1
+      by s.0 s.1.0 (and_parts (is_module_name s.0.role) (s.0.name == a) t.0) s.0.declaration refl t.1
     where
       by : (o : Found) → Contains os o → (is_module_name o.role ≡ true) × ((o.name == a) ≡ true) → (d : Option ℕ) → o.declaration ≡ d → Contains (used_in os d) b → LeadsTo u a b
       by o there tests None e c = absurd (contains_none b c)
       by o there tests (Some j) e c = (
         j,
         subst (λ xs. Contains xs a) (sym (declared_is j))
-            (to_joined (declared_here j) os o a there (to_if (is_module_name o.role && lies_in j o.declaration) (o.name ∷ []) a (and_true (is_module_name o.role) (lies_in j o.declaration) tests.0 (some_lies j o.declaration e)) (subst (Contains (o.name ∷ [])) ((Decides-eqb o.name a).0 tests.1) (contains_here o.name [])))),
+            (to_joined (declared_here j) os o a there (to_if (is_module_name o.role && lies_in j o.declaration) (o.name ∷ []) a (and_from (is_module_name o.role) (lies_in j o.declaration) tests.0 (some_lies j o.declaration e)) (subst (Contains (o.name ∷ [])) ((Decides-eqb o.name a).0 tests.1) (contains_here o.name [])))),
         subst (λ xs. Contains xs b) (sym (referred_is j)) c,
       )
 
@@ -138,10 +131,10 @@ module _ (u : UnitView) (w : ℕ → Block) (os : List Found) (all_is : map (tol
   leads_from a b (j, d, r) =
       let s = from_joined (declared_here j) os a (subst (λ xs. Contains xs a) (declared_is j) d) in
       let t = from_if (is_module_name s.0.role && lies_in j s.0.declaration) (s.0.name ∷ []) a s.1.1 in
-      let tests = both (is_module_name s.0.role) (lies_in j s.0.declaration) t.0 in
+      let tests = and_parts (is_module_name s.0.role) (lies_in j s.0.declaration) t.0 in
       let name : s.0.name ≡ a = contains_one s.0.name a t.1 in
       let used : Contains (used_in os s.0.declaration) b = subst (λ d. Contains (used_in os d) b) (sym (lies_some j s.0.declaration tests.1)) (subst (λ xs. Contains xs b) (referred_is j) r) in
-      to_joined (steps_here (used_in os) a) os s.0 b s.1.0 (to_if (is_module_name s.0.role && s.0.name == a) (used_in os s.0.declaration) b (and_true (is_module_name s.0.role) (s.0.name == a) tests.0 ((Decides-eqb s.0.name a).1 name)) used)
+      to_joined (steps_here (used_in os) a) os s.0 b s.1.0 (to_if (is_module_name s.0.role && s.0.name == a) (used_in os s.0.declaration) b (and_from (is_module_name s.0.role) (s.0.name == a) tests.0 ((Decides-eqb s.0.name a).1 name)) used)
 
   -- the graph of the steps
   pub same_steps : (g : Graph) → ((a : ℕ) → edges_at g a ≡ steps os a) → (a b : ℕ) → Leads g a b ↔ LeadsTo u a b

@@ -6,16 +6,13 @@ use Rattle.wesl_visit_collect.specs.Sought.{Sought, expressions, types, statemen
 use Rattle.wesl_visit_collect.specs.Walk.{sight, sight_below, chosen, passes_words}
 use Rattle.wesl_visit_collect.specs.Held.{all_of, plain_label, flat_label, hollow_label}
 use Rattle.wesl_visit_collect.specs.Picks.{picks, seeks_statements, seeks_attributes}
-
-pub both : (a b : Bool) → (a && b) ≡ true → (a ≡ true) × (b ≡ true)
-both true b h = (refl, h)
-both false b h = cc
+use Rattle.std.proofs.lemmas.Bool.{and_parts}
 
 pub all_more : (p q : Label → Bool) → ((l : Label) → p l ≡ true → q l ≡ true) → (f : Forest) → all_of p f ≡ true → all_of q f ≡ true
 all_more p q m end h = refl
 all_more p q m (tree l children others) h =
-    let a = both (p l && all_of p children) (all_of p others) h in
-    let b = both (p l) (all_of p children) a.0 in
+    let a = and_parts (p l && all_of p children) (all_of p others) h in
+    let b = and_parts (p l) (all_of p children) a.0 in
     rw (m l b.0, all_more p q m children b.1, all_more p q m others a.1) refl
 
 hollow_is_plain : (l : Label) → hollow_label l ≡ true → plain_label l ≡ true
@@ -45,8 +42,8 @@ plain_below k _ f h = refl
 pub sight_plain : (k : Sought) (f : Forest) → all_of plain_label f ≡ true → sight k f ≡ f
 sight_plain k end h = refl
 sight_plain k (tree l children others) h =
-    let a = both (plain_label l && all_of plain_label children) (all_of plain_label others) h in
-    let b = both (plain_label l) (all_of plain_label children) a.0 in
+    let a = and_parts (plain_label l && all_of plain_label children) (all_of plain_label others) h in
+    let b = and_parts (plain_label l) (all_of plain_label children) a.0 in
     rw (sight_plain k children b.1, sight_plain k others a.1, plain_below k l children b.0) refl
 
 -- where words are not left out all is seen
@@ -82,8 +79,8 @@ chosen_here deep b l c here there p q r = rw (p, q, r) refl
 pub chosen_none : (k : Sought) (deep : Bool) (p : Label → Bool) → ((l : Label) → p l ≡ true → picks k l ≡ false) → (f : Forest) → all_of p f ≡ true → chosen k deep f ≡ []
 chosen_none k deep p m end h = refl
 chosen_none k deep p m (tree l children others) h =
-    let a = both (p l && all_of p children) (all_of p others) h in
-    let b = both (p l) (all_of p children) a.0 in
+    let a = and_parts (p l && all_of p children) (all_of p others) h in
+    let b = and_parts (p l) (all_of p children) a.0 in
     chosen_here deep (picks k l) l children (chosen k deep children) (chosen k deep others) (m l b.0) (chosen_none k deep p m children b.1) (chosen_none k deep p m others a.1)
 
 flat_statements : (l : Label) → flat_label l ≡ true → picks statements l ≡ false
@@ -123,6 +120,6 @@ same_below _ f h = refl
 pub without_none : (f : Forest) → all_of hollow_label f ≡ true → without_attributes f ≡ f
 without_none end h = refl
 without_none (tree l children others) h =
-    let a = both (hollow_label l && all_of hollow_label children) (all_of hollow_label others) h in
-    let b = both (hollow_label l) (all_of hollow_label children) a.0 in
+    let a = and_parts (hollow_label l && all_of hollow_label children) (all_of hollow_label others) h in
+    let b = and_parts (hollow_label l) (all_of hollow_label children) a.0 in
     rw (without_none others a.1, same_below l children b.0) refl

@@ -12,7 +12,8 @@ use Rattle.wesl_visit_collect.proofs.Plain.{expression_plain, type_plain}
 use Rattle.wesl_visit_collect.specs.Picks.{picks}
 use Rattle.wesl_visit_collect.specs.Sought.{Sought}
 use Rattle.wesl_visit_collect.specs.Walk.{sight, sight_below}
-use Rattle.wesl_visit_collect.proofs.Labels.{both, plain_below, sight_plain, statements_whole, attributes_whole}
+use Rattle.wesl_visit_collect.proofs.Labels.{plain_below, sight_plain, statements_whole, attributes_whole}
+use Rattle.std.proofs.lemmas.Bool.{and_parts}
 
 -- A node of one of the four kinds is no word, and is seen whole where it is of the kind that is looked for.
 pub record IsSeen (k : Sought) (t : Tree) : Type 0 where
@@ -24,7 +25,7 @@ seen_expression k n = record { below = λ f. refl; whole = λ p. sight_plain k (
 
 pub seen_type : (k : Sought) (t : TypeExpression) → IsSeen k (type_view t)
 seen_type k t =
-    let plain = both (plain_label (type_view t).label) (all_of plain_label (type_view t).children) (type_plain t) in
+    let plain = and_parts (plain_label (type_view t).label) (all_of plain_label (type_view t).children) (type_plain t) in
     record { below = λ f. plain_below k (type_view t).label f plain.0; whole = λ p. sight_plain k (type_view t).children plain.1 }
 
 pub seen_statement : (k : Sought) (n : Spanned Statement) → IsSeen k (statement_tree n)

@@ -1,15 +1,11 @@
 -- What is told of a node by its label.
-use Rattle.std.proofs.Common.{◌≡◌, Bool, true, false, ◌||◌, ◌&&◌, refl}
+use Rattle.std.proofs.Common.{◌≡◌, Bool, true, false, ◌||◌, refl}
 use Rattle.wesl_tree_syntax.specs.Tree.{Label, kind, at, expression_node, statement_node, attributes, if_attribute, elif_attribute, import_statement, diagnostic_directive, enable_directive, requires_directive, type_expression}
 use Rattle.wesl_tree_syntax.specs.Nodes.{is_formula, is_import_or_directive}
 use Rattle.wesl_visit_collect.specs.Held.{flat_label, hollow_label}
 use Rattle.wesl_visit_collect.specs.Picks.{picks}
 use Rattle.wesl_visit_rewrite.specs.Replaced.{is_passed_over}
 use Rattle.wesl_visit_collect.specs.Sought.{Sought, expressions, types, statements, attribute_lists, test}
-
-pub both : (a b : Bool) → (a && b) ≡ true → (a ≡ true) × (b ≡ true)
-both true b h = (refl, h)
-both false b h = cc
 
 -- a test of a kind of node, told by the label first
 pub agrees : (k : Sought) (l : Label) → test k l ≡ picks k l

@@ -11,8 +11,9 @@ use Rattle.wesl_visit_rewrite.specs.Replaced.{Rule, is_passed_over, Replaced, no
 use Rattle.wesl_visit_collect.specs.Picks.{picks}
 use Rattle.wesl_visit_collect.specs.Finished.{Finished, FinishedBy, TurnedBy}
 use Rattle.wesl_visit_rewrite.specs.Went.{Went, WentBy}
-use Rattle.wesl_visit_rewrite.proofs.Labels.{agrees, both, hollow_picks, hollow_words, no_word, words}
+use Rattle.wesl_visit_rewrite.proofs.Labels.{agrees, hollow_picks, hollow_words, no_word, words}
 use Rattle.wesl_visit_collect.specs.Held.{all_of, hollow_label}
+use Rattle.std.proofs.lemmas.Bool.{and_parts}
 
 not_false : (b : Bool) → (true && not b) ≡ false → b ≡ true
 not_false true h = refl
@@ -138,8 +139,8 @@ module _ {k : Rule} where
 pub replaced_none : (k : Rule) (p : Label → Bool) → ((l : Label) → p l ≡ true → is_passed_over k.sought l ≡ false) → ((l : Label) → p l ≡ true → test k.sought l ≡ false) → (f : Forest) → all_of p f ≡ true → Replaced k f f
 replaced_none k p v w end h = nothing
 replaced_none k p v w (tree l children others) h =
-    let a = both (p l && all_of p children) (all_of p others) h in
-    let b = both (p l) (all_of p children) a.0 in
+    let a = and_parts (p l && all_of p children) (all_of p others) h in
+    let b = and_parts (p l) (all_of p children) a.0 in
     other (v l b.0) (w l b.0) (replaced_none k p v w children b.1) (replaced_none k p v w others a.1)
 
 pub hollow_same : (k : Rule) (f : Forest) → all_of hollow_label f ≡ true → Replaced k f f

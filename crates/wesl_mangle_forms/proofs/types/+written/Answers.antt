@@ -2,10 +2,10 @@ use Rattle.std.proofs.Common.{◌∙◌, sym, length}
 use Rattle.wesl_tree_syntax.specs.View.{argument_view}
 use Rattle.wesl_tree_syntax.specs.declared.expression.TemplateArg.{TemplateArg}
 use Rattle.wesl_mangle_forms.specs.TypeText.{tree_text}
-use Rattle.wesl_mangle_forms.proofs.Cuts.{and-both}
 use Rattle.wesl_mangle_forms.proofs.TypeTexts.{all-of-it, argument-text, below_next, inner-text, literal-text, normal_next, one-more, texts_in-map, type-ident, type-text, type-texts}
 use Rattle.wesl_mangle_forms.proofs.Written.{then, worded}
 use Rattle.wesl_mangle_forms.proofs.types.+written.Goals as goal
+use Rattle.std.proofs.lemmas.Bool.{and_parts}
 
 pub push_type-name-requires : goal.push_type-name-requires
 push_type-name-requires t c = type-ident c.args.ty.now (length c.args.names.now) c.requires.below
@@ -29,8 +29,8 @@ push_arguments-loop-place-preserved t c =
     let is = c.argument-item.is in
     record {
       text = one-more (λ (x : TemplateArg). tree_text names (argument_view x)) xs i a a c.loop-place-test.true is c.loop-place.invariant.text c.push_mark.ensures (worded (argument-text names a) c.push_argument.ensures);
-      below = (and-both _ _ (sym (below_next argument_view (length names) xs i a a c.loop-place-test.true is) ∙ c.loop-place.invariant.below)).1;
-      normal = (and-both _ _ (sym (normal_next xs i a a c.loop-place-test.true is) ∙ c.loop-place.invariant.normal)).1;
+      below = (and_parts _ _ (sym (below_next argument_view (length names) xs i a a c.loop-place-test.true is) ∙ c.loop-place.invariant.below)).1;
+      normal = (and_parts _ _ (sym (normal_next xs i a a c.loop-place-test.true is) ∙ c.loop-place.invariant.normal)).1;
     }
 
 pub push_arguments-returns : goal.push_arguments-returns

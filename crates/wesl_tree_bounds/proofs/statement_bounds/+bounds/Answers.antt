@@ -1,10 +1,11 @@
 use Rattle.std.proofs.Common.{refl, sym, ◌∙◌, ◌≡◌, ◌&&◌, ap}
 use Rattle.wesl_tree_syntax.specs.Tree.{statement_node, tree_below, list, clauses}
 use Rattle.wesl_tree_syntax.specs.View.{clause_view, else_if_view, placed, statement_view, attributes_tree, expression_tree, if_view, else_view, listed, optional}
-use Rattle.wesl_tree_bounds.proofs.Below.{end_below, next_below, not_below, placed_below, and_true, past_true, past_false}
+use Rattle.wesl_tree_bounds.proofs.Below.{end_below, next_below, not_below, placed_below, past_true, past_false}
 use Rattle.wesl_tree_bounds.proofs.Views.{if_below, switch_below}
 use Rattle.wesl_tree_bounds.proofs.statement_bounds.+bounds.Goals.{statement_is_below-then-attributes_are_below-2, statement_is_below-else-attributes_are_below-2, statement_is_below-then-if_is_below, statement_is_below-else-if_is_below, statement_is_below-then-attributes_are_below-3, statement_is_below-else-attributes_are_below-3, statement_is_below-then-node_is_below-2, statement_is_below-else-node_is_below-2}
 use Rattle.wesl_tree_bounds.proofs.statement_bounds.+bounds.Goals as goal
+use mathlib.Core.Bool.{and-true}
 
 pub statements_are_below-loop-node-init : goal.statements_are_below-loop-node-init
 statements_are_below-loop-node-init t c = refl
@@ -88,7 +89,7 @@ statement_is_below-returns-in-Some t c =
     ] in
     let whole = if_below n c.args.statement.now v.attributes v.if_clause v.else_if_clauses v.else_clause v.is in
     c.else_is_below.ensures
-    ∙ sym (whole ∙ (past_true ((a && i) && e) o (sym second ∙ c.if-else_ifs_are_below.true) ∙ (ap (λ z. tree_below n (optional else_view z)) c.in-Some.is ∙ and_true (tree_below n (else_view c.in-Some.clause)))))
+    ∙ sym (whole ∙ (past_true ((a && i) && e) o (sym second ∙ c.if-else_ifs_are_below.true) ∙ (ap (λ z. tree_below n (optional else_view z)) c.in-Some.is ∙ and-true (tree_below n (else_view c.in-Some.clause)))))
 
 pub statement_is_below-returns-else-else_ifs_are_below : goal.statement_is_below-returns-else-else_ifs_are_below
 statement_is_below-returns-else-else_ifs_are_below t c =

@@ -3,9 +3,10 @@ use Rattle.std.specs.List.{list_any}
 use Rattle.std.proofs.lemmas.List.{drop_all}
 use Rattle.wesl_scope_occurrences.specs.Views.{occurrence_view}
 use Rattle.wesl_scope_strip.specs.Marks.{mark_at}
-use Rattle.wesl_scope_strip.proofs.Marking.{any_next, or_assoc, or_false}
+use Rattle.wesl_scope_strip.proofs.Marking.{any_next, or_assoc}
 use Rattle.wesl_validate_rules.specs.Known.{binds_here}
 use Rattle.wesl_validate_calls.proofs.numbers.bound_numbers.Goals as goal
+use mathlib.Core.Bool.{or-false}
 
 pub loop-occurrence-preserved : goal.loop-occurrence-preserved
 loop-occurrence-preserved c =
@@ -27,4 +28,4 @@ returns c =
     let i = c.loop-occurrence.occurrence-index in
     let past : length found ≤ i = subst (λ xs. length xs ≤ i) c.deref-occurrence-items.ensures.value c.loop-occurrence-test.false in
     let old = c.loop-occurrence.bound.items in
-    λ m. sym (or_false (mark_at old m)) ∙ (ap (λ ys. mark_at old m || list_any (binds_here m) (map occurrence_view ys)) (sym (drop_all i found past)) ∙ c.loop-occurrence.invariant m)
+    λ m. sym (or-false (mark_at old m)) ∙ (ap (λ ys. mark_at old m || list_any (binds_here m) (map occurrence_view ys)) (sym (drop_all i found past)) ∙ c.loop-occurrence.invariant m)

@@ -2,9 +2,10 @@ use Rattle.std.proofs.Common.{◌≡◌, ◌<◌, ◌≤◌, ◌+◌, ◌||◌, 
 use Rattle.std.proofs.lemmas.List.{drop_all, with_items_is}
 use Rattle.wesl_scope_occurrences.specs.Views.{occurrence_view}
 use Rattle.wesl_scope_strip.specs.Marks.{mark_at}
-use Rattle.wesl_scope_strip.proofs.Marking.{any_next, or_assoc, or_false}
+use Rattle.wesl_scope_strip.proofs.Marking.{any_next, or_assoc}
 use Rattle.wesl_validate_rules.specs.Known.{binds_here, binds}
 use Rattle.wesl_validate_rules.proofs.known.known_numbers.Goals as goal
+use mathlib.Core.Bool.{or-false}
 
 pub loop-occurrence-preserved : goal.loop-occurrence-preserved
 loop-occurrence-preserved c =
@@ -36,5 +37,5 @@ returns c =
     let found = c.args.found.now.all.items in
     let i = c.loop-occurrence.occurrence-index in
     let past : length found ≤ i = subst (λ xs. length xs ≤ i) c.deref-occurrence-items.ensures.value c.loop-occurrence-test.false in
-    λ m l. sym (or_false (mark_at c.loop-occurrence.known.items m))
+    λ m l. sym (or-false (mark_at c.loop-occurrence.known.items m))
     ∙ (ap (λ ys. mark_at c.loop-occurrence.known.items m || binds (map occurrence_view ys) m) (sym (drop_all i found past)) ∙ c.loop-occurrence.invariant.marked m l)

@@ -4,9 +4,9 @@ use Rattle.wesl_tree_syntax.specs.View.{argument_view, expression_tree, expressi
 use Rattle.wesl_tree_spelling.proofs.Chains.{at_places, last, of_kind, of_labels, seen, stop, then}
 use Rattle.wesl_tree_spelling.proofs.Pairs.{all_agree, other_lengths, pair_agrees, pair_differs}
 use Rattle.wesl_tree_spelling.proofs.UnlikeExpressions.{unlike}
-use Rattle.wesl_tree_spelling.proofs.Bools.{and_true}
 use Rattle.wesl_tree_spelling.proofs.tables.Tables.+expression.Goals as goal
 use Rattle.wesl_tree_syntax.proofs.Views.{type_of, view_argument, view_binary, view_call, view_call_expression, view_indexing, view_literal, view_name, view_named, view_parenthesized, view_type}
+use mathlib.Core.Bool.{and-true}
 
 pub same_nodes-returns-then-len : goal.same_nodes-returns-then-len
 same_nodes-returns-then-len t c = other_lengths expression_tree c.args.self.now c.args.left.now c.args.right.now c.len.ensures c.len-2.ensures c.if-len.true
@@ -67,16 +67,16 @@ same_call-returns-else-same_type t c = seen c.args.self.now (view_call c.args.le
 pub same_type-returns-in-None-None : goal.same_type-returns-in-None-None
 same_type-returns-in-None-None t c =
     seen c.args.self.now (type_of c.args.left.now None c.in-None-None.is-0) (type_of c.args.right.now None c.in-None-None.is-1)
-    (of_kind type_expression refl (then c.same_boxed_path.ensures c.if-same_boxed_path.true (then (c.same_ident.ensures ∙ sym (and_true _)) c.if-same_ident.true (last refl))))
+    (of_kind type_expression refl (then c.same_boxed_path.ensures c.if-same_boxed_path.true (then (c.same_ident.ensures ∙ sym (and-true _)) c.if-same_ident.true (last refl))))
 
 pub same_type-returns-in-Some-Some : goal.same_type-returns-in-Some-Some
 same_type-returns-in-Some-Some t c =
     seen c.args.self.now (type_of c.args.left.now (Some c.in-Some-Some.left) c.in-Some-Some.is-0) (type_of c.args.right.now (Some c.in-Some-Some.right) c.in-Some-Some.is-1)
-    (of_kind type_expression refl (then c.same_boxed_path.ensures c.if-same_boxed_path.true (then (c.same_ident.ensures ∙ sym (and_true _)) c.if-same_ident.true (last (c.same_arguments.ensures ∙ sym (and_true _))))))
+    (of_kind type_expression refl (then c.same_boxed_path.ensures c.if-same_boxed_path.true (then (c.same_ident.ensures ∙ sym (and-true _)) c.if-same_ident.true (last (c.same_arguments.ensures ∙ sym (and-true _))))))
 
 pub same_type-returns-else-same_ident : goal.same_type-returns-else-same_ident
 same_type-returns-else-same_ident t c =
-    seen c.args.self.now (view_type c.args.left.now) (view_type c.args.right.now) (of_kind type_expression refl (then c.same_boxed_path.ensures c.if-same_boxed_path.true (stop (c.same_ident.ensures ∙ sym (and_true _)) c.if-same_ident.false)))
+    seen c.args.self.now (view_type c.args.left.now) (view_type c.args.right.now) (of_kind type_expression refl (then c.same_boxed_path.ensures c.if-same_boxed_path.true (stop (c.same_ident.ensures ∙ sym (and-true _)) c.if-same_ident.false)))
 
 pub same_type-returns-else-same_boxed_path : goal.same_type-returns-else-same_boxed_path
 same_type-returns-else-same_boxed_path t c = seen c.args.self.now (view_type c.args.left.now) (view_type c.args.right.now) (of_kind type_expression refl (stop c.same_boxed_path.ensures c.if-same_boxed_path.false))
@@ -91,7 +91,7 @@ same_expression-returns-in-Parenthesized-Parenthesized t c =
 
 pub same_expression-returns-then-same_node : goal.same_expression-returns-then-same_node
 same_expression-returns-then-same_node t c =
-    seen c.args.self.now (ap expression_view c.in-NamedComponent-NamedComponent.is-0 ∙ view_named _ _) (ap expression_view c.in-NamedComponent-NamedComponent.is-1 ∙ view_named _ _) (of_kind named_component refl (then (at_places expression_tree c.args.self.now c.deref-in-NamedComponent-NamedComponent.ensures c.deref-in-NamedComponent-NamedComponent-2.ensures c.same_node-in-NamedComponent-NamedComponent.ensures) c.if-same_node.true (last (c.eq.ensures ∙ sym (and_true _)))))
+    seen c.args.self.now (ap expression_view c.in-NamedComponent-NamedComponent.is-0 ∙ view_named _ _) (ap expression_view c.in-NamedComponent-NamedComponent.is-1 ∙ view_named _ _) (of_kind named_component refl (then (at_places expression_tree c.args.self.now c.deref-in-NamedComponent-NamedComponent.ensures c.deref-in-NamedComponent-NamedComponent-2.ensures c.same_node-in-NamedComponent-NamedComponent.ensures) c.if-same_node.true (last (c.eq.ensures ∙ sym (and-true _)))))
 
 pub same_expression-returns-else-same_node : goal.same_expression-returns-else-same_node
 same_expression-returns-else-same_node t c =

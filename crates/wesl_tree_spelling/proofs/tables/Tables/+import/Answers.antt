@@ -3,9 +3,9 @@ use Rattle.wesl_tree_syntax.specs.Tree.{import_entry}
 use Rattle.wesl_tree_syntax.specs.View.{entry_view}
 use Rattle.wesl_tree_spelling.proofs.Chains.{last, of_kind, seen, stop, then}
 use Rattle.wesl_tree_spelling.proofs.Pairs.{all_agree, other_lengths, pair_agrees, pair_differs}
-use Rattle.wesl_tree_spelling.proofs.Bools.{and_true}
 use Rattle.wesl_tree_spelling.proofs.tables.Tables.+import.Goals as goal
 use Rattle.wesl_tree_syntax.proofs.Views.{view_entry}
+use mathlib.Core.Bool.{and-true}
 
 pub same_entries-returns-then-len : goal.same_entries-returns-then-len
 same_entries-returns-then-len t c = other_lengths entry_view c.args.self.now c.args.left.now c.args.right.now c.len.ensures c.len-2.ensures c.if-len.true
@@ -33,7 +33,7 @@ pub same_entries-returns : goal.same_entries-returns
 same_entries-returns t c = all_agree entry_view c.args.self.now c.len.ensures c.len-2.ensures c.if-len.false c.len-i-end.ensures c.loop-i-test.false c.loop-i.invariant
 
 pub same_entry-returns-then-same_texts : goal.same_entry-returns-then-same_texts
-same_entry-returns-then-same_texts t c = seen c.args.self.now (view_entry c.args.left.now) (view_entry c.args.right.now) (of_kind import_entry refl (then (c.same_texts.ensures ∙ sym (and_true _)) c.if-same_texts.true (last c.same_content.ensures)))
+same_entry-returns-then-same_texts t c = seen c.args.self.now (view_entry c.args.left.now) (view_entry c.args.right.now) (of_kind import_entry refl (then (c.same_texts.ensures ∙ sym (and-true _)) c.if-same_texts.true (last c.same_content.ensures)))
 
 pub same_entry-returns-else-same_texts : goal.same_entry-returns-else-same_texts
-same_entry-returns-else-same_texts t c = seen c.args.self.now (view_entry c.args.left.now) (view_entry c.args.right.now) (of_kind import_entry refl (stop (c.same_texts.ensures ∙ sym (and_true _)) c.if-same_texts.false))
+same_entry-returns-else-same_texts t c = seen c.args.self.now (view_entry c.args.left.now) (view_entry c.args.right.now) (of_kind import_entry refl (stop (c.same_texts.ensures ∙ sym (and-true _)) c.if-same_texts.false))
