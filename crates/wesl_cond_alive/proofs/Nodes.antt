@@ -120,7 +120,7 @@ attribute_placed here there true g s start stop t e d = rw (d, e) (by_condition 
 
 -- ---- bodies
 
-size_listed : (ts : List Tree) → size (forest_of ts) ≡ length ts
+pub size_listed : (ts : List Tree) → size (forest_of ts) ≡ length ts
 size_listed [] = refl
 size_listed (t ∷ ts) = ap suc (size_listed ts)
 

@@ -7,7 +7,7 @@ front_is_all f g [] (suc n) h = refl
 front_is_all f g (x ∷ xs) zero h = absurd (omega arith)
 front_is_all f g (x ∷ xs) (suc n) h = ap (λ r. f x ∷ r) (front_is_all f g xs n (omega arith))
 
-take-length : {A : Type 0} (xs zs : List A) → take (length xs) (xs ++ zs) ≡ xs
+pub take-length : {A : Type 0} (xs zs : List A) → take (length xs) (xs ++ zs) ≡ xs
 take-length [] zs = refl
 take-length (x ∷ xs) zs = ap (λ r. x ∷ r) (take-length xs zs)
 

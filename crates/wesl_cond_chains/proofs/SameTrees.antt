@@ -17,7 +17,7 @@ use Rattle.wesl_tree_syntax.specs.Nodes.{is_formula}
 use Rattle.wesl_tree_syntax.specs.Tree.{LabelOf, ForestOf, TreeOf, end, tree, kind, compound, present, absent, statements}
 use Rattle.wesl_tree_syntax.specs.Unit.{UnitOf}
 
-listed_in : {I : Type 0} (l : LabelOf I) (held : Bool) → (is_list l && not (is_statements l && held)) ≡ true → is_compound l ≡ false
+pub listed_in : {I : Type 0} (l : LabelOf I) (held : Bool) → (is_list l && not (is_statements l && held)) ≡ true → is_compound l ≡ false
 listed_in (kind compound) held e = cc
 listed_in l held e = refl
 

@@ -22,10 +22,7 @@ use Rattle.wesl_cond_features.specs.Features.{Replies, known, HoldsNoError, then
 use Rattle.wesl_tree_syntax.specs.Tree.{LabelOf, ForestOf, end, tree, kind, compound, statements}
 use Rattle.wesl_tree_syntax.specs.Unit.{UnitOf, forest_of_unit}
 use Rattle.std.proofs.lemmas.Bool.{and_parts}
-
-not_compound : {I : Type 0} (l : LabelOf I) (held : Bool) → (is_list l && not (is_statements l && held)) ≡ true → is_compound l ≡ false
-not_compound (kind compound) held e = cc
-not_compound l held e = refl
+use Rattle.wesl_cond_chains.proofs.SameTrees.{listed_in}
 
 -- The shapes of what a loop or a continuing block holds.
 module _ {I : Type 0} where
@@ -324,7 +321,7 @@ module _ {I : Type 0} (first second : Replies I) (h : HoldsNoError second) where
   node_on : (l : LabelOf I) (c : ForestOf I) (held : Bool) (w v t : Bool) → is_entered l ≡ w → is_closed l ≡ v → (is_list l && not (is_statements l && held)) ≡ t → AllGoOn c → Clear first held (tree l c end) → Clear second held (tree l (left_in held l c) end)
   node_on l c held false v t e k d all clear = clear_leaf second held l (left_in held l c) e
   node_on l c held true true t e k d all clear = closed_node l c held e k all clear
-  node_on l c held true false true e k d all clear = listed_node l c held e k d (not_compound l held d) all clear
+  node_on l c held true false true e k d all clear = listed_node l c held e k d (listed_in l held d) all clear
   node_on l c held true false false e k d all clear = other_node l c held e k d all clear
 
   all_on : (t : ForestOf I) → AllGoOn t
@@ -402,7 +399,7 @@ module _ {I : Type 0} (first second : Replies I) (e : HoldsNoError first) (h : H
       subst (λ b. Clear first b (judged (stay both) held l c)) (sym holds) (subst (Clear first true) (sym (judges (stay both)))
       (held_in_both c (subst (Clear first true) (judges (stay first)) (subst (λ b. Clear first b (judged (stay first) held l c)) holds clear))))
   node_in_both held l c false true k d clear =
-      let holds : holds_body held l ≡ false = rw (k, not_compound l held d) refl in
+      let holds : holds_body held l ≡ false = rw (k, listed_in l held d) refl in
       let judges : (f : List (Element I) → List (Element I)) → judged f held l c ≡ alone f c = λ f. rw (k, d) refl in
       subst (λ b. Clear first b (judged (stay both) held l c)) (sym holds) (subst (Clear first false) (sym (judges (stay both)))
       (back_in_both false (elements false c) (subst (Clear first false) (judges (stay first)) (subst (λ b. Clear first b (judged (stay first) held l c)) holds clear))))

@@ -12,6 +12,7 @@ use Rattle.wesl_cond_chains.proofs.ChainTurns.{turn_of, after_is}
 use Rattle.wesl_cond_features.specs.Answers.{Answers}
 use Rattle.wesl_cond_features.specs.declared.features.Truth.{Truth}
 use Rattle.wesl_tree_syntax.specs.Tree.{Tree, Forest, end, tree, before, forest_of}
+use Rattle.wesl_cond_chains.proofs.Fronts.{map_in_turn}
 
 abbrev first_element : Bool → Element ℕ → Forest → Element ℕ
 first_element closes x end = x
@@ -71,12 +72,8 @@ pub elements_of : (closes : Bool) (ts : List Tree) → elements closes (forest_o
 elements_of closes [] = refl
 elements_of closes (t ∷ ts) = ap (λ xs. as_element closes t ∷ xs) (elements_of closes ts)
 
-pub map_of : {A B C : Type 0} (f : A → B) (g : B → C) (xs : List A) → map (λ x. g (f x)) xs ≡ map g (map f xs)
-map_of f g [] = refl
-map_of f g (x ∷ xs) = ap (λ r. g (f x) ∷ r) (map_of f g xs)
-
 pub elements_as : {A : Type 0} (closes : Bool) (view : A → Tree) (xs : List A) → map (λ x. as_element closes (view x)) xs ≡ elements closes (forest_of (map view xs))
-elements_as closes view xs = map_of view (as_element closes) xs ∙ sym (elements_of closes (map view xs))
+elements_as closes view xs = map_in_turn view (as_element closes) xs ∙ sym (elements_of closes (map view xs))
 
 pub optional_as : {A : Type 0} (closes : Bool) (view : A → Tree) (o : Option A) → optional_elements closes view o ≡ elements closes (optional_forest view o)
 optional_as closes view None = refl

@@ -13,11 +13,9 @@ use Rattle.wesl_cond_faults.specs.declared.told.Told.{Told}
 use Rattle.wesl_tree_names.specs.Path.{Text}
 use Rattle.wesl_tree_names.specs.declared.errors.Diagnostic.{Diagnostic}
 use Rattle.wesl_tree_syntax.specs.Tree.{Label, Forest, Tree, end, tree, before}
+use Rattle.wesl_cond_unit.proofs.Whole.{not_outside}
 
 -- A list that was judged has no fault, or one.
-two_ways : (b : Bool) → b ≡ true → b ≡ false → ⊥
-two_ways b e d = cc
-
 module _ (names : List Text) where
   -- a list that was refused has a fault
   pub refused_some : (fs : List (Place ℕ)) (told : Diagnostic) → Refuses names fs told → fs ≡ [] → ⊥
@@ -25,10 +23,10 @@ module _ (names : List Text) where
 
   pub clear_if : {A : Type 0} (fs : List (Place ℕ)) (r : Result A Diagnostic) (b : Bool) → Judges names fs r → b ≡ is_ok r → b ≡ true → fs ≡ []
   clear_if fs (Ok x) b h e t = h
-  clear_if fs (Err d) b h e t = absurd (two_ways b t e)
+  clear_if fs (Err d) b h e t = absurd (not_outside b t e)
 
   pub some_if : {A : Type 0} (fs : List (Place ℕ)) (r : Result A Diagnostic) (b : Bool) → Judges names fs r → b ≡ is_ok r → b ≡ false → fs ≡ [] → ⊥
-  some_if fs (Ok x) b h e d none = two_ways b e d
+  some_if fs (Ok x) b h e d none = not_outside b e d
   some_if fs (Err told) b h e d none = refused_some fs told h none
 
 module _ (names : List Text) where

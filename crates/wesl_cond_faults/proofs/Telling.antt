@@ -1,5 +1,5 @@
 -- Faults told one after the other.
-use Rattle.std.proofs.Common.{◌≡◌, ◌↔◌, ℕ, Bool, true, false, List, [], ◌∷◌, ◌++◌, inl, refl, sym, subst}
+use Rattle.std.proofs.Common.{◌≡◌, ◌↔◌, ℕ, true, false, List, [], ◌∷◌, ◌++◌, inl, refl, sym, subst}
 use Rattle.wesl_cond_chains.specs.FormulaFaults.{Fault, IsAmong, Tells}
 use Rattle.wesl_cond_chains.specs.Laws.{IsFaultless}
 use Rattle.wesl_cond_features.specs.Features.{Replies, by_number}
@@ -17,9 +17,7 @@ use Rattle.wesl_tree_names.specs.declared.errors.Diagnostic.{Diagnostic}
 use Rattle.wesl_tree_names.specs.declared.errors.Error as error
 use Rattle.wesl_tree_syntax.specs.Tree.{Forest}
 use Rattle.wesl_tree_syntax.specs.Unit.{UnitView, forest_of_unit, trees_of}
-
-not_both : (b : Bool) → b ≡ true → b ≡ false → ⊥
-not_both b e d = cc
+use Rattle.wesl_cond_unit.proofs.Whole.{not_outside}
 
 module _ (names : List Text) where
   tell_more : (ps : List (Place ℕ)) (ds : List Diagnostic) (p : Place ℕ) (d : Diagnostic) → TellEach names ps ds → TellsPlace names p d → TellEach names (ps ++ p ∷ []) (ds ++ d ∷ [])
@@ -33,7 +31,7 @@ module _ (names : List Text) where
   adds_one e span f d a b kept grown is h = λ first told k. subst (TellEach names (first ++ found_at span f ∷ [])) (sym (grown k)) (tell_more first a.diagnostics.items (found_at span f) d (told (kept k)) (placed_told names e span f d is h))
 
   pub adds_refused : (ps : List (Place ℕ)) (a b : Told) → b.is_refused ≡ true → AddsFaults names ps a b
-  adds_refused ps a b e = λ first told k. absurd (not_both b.is_refused e k)
+  adds_refused ps a b e = λ first told k. absurd (not_outside b.is_refused e k)
 
   none_each : (ps : List (Place ℕ)) (ds : List Diagnostic) → TellEach names ps ds → ds ≡ [] → ps ≡ []
   none_each [] ds h e = refl

@@ -27,6 +27,7 @@ use Rattle.wesl_cond_positions.proofs.Fields.{IsJudged, alone, below, from_tree,
 use Rattle.wesl_cond_positions.proofs.Numbers.{found_as, kept_number, none_past}
 use Rattle.wesl_tree_syntax.proofs.Views.{view_compound}
 use mathlib.Core.Bool.{and-false, and-true}
+use Rattle.wesl_cond_alive.proofs.Nodes.{size_listed}
 
 pub selector_leaf : (x : CaseSelector) → is_entered (selector_view x).label ≡ false
 selector_leaf selectors.Default = refl
@@ -100,10 +101,6 @@ loop_closing = record { entered = refl; plain = refl; keeps_body = λ choice chi
 
 pub continuing_closing : IsClosing continuing
 continuing_closing = record { entered = refl; plain = refl; keeps_body = λ choice children. refl; keeps_last = λ choice children. refl; to_body = λ ks. refl; to_last = λ ks. refl }
-
-size_listed : (ts : List Tree) → size (forest_of ts) ≡ length ts
-size_listed [] = refl
-size_listed (t ∷ ts) = ap suc (size_listed ts)
 
 length_elements : (ts : List Tree) → length (elements {I = ℕ} false (forest_of ts)) ≡ length ts
 length_elements [] = refl

@@ -19,6 +19,7 @@ use Rattle.wesl_cond_features.specs.Features.{Replies, known}
 use Rattle.wesl_tree_names.specs.Path.{Text}
 use Rattle.wesl_tree_names.specs.declared.errors.Diagnostic.{Diagnostic}
 use Rattle.wesl_tree_syntax.specs.Tree.{Label, Forest, Tree, end, tree, before, forest_of}
+use Rattle.wesl_cond_chains.proofs.Taken.{elements_as}
 
 -- the nodes of the rest of a list that stay, where a branch of the chain before is kept, one was true
 abbrev pub on_from : Replies ℕ → Bool → Bool → List (Element ℕ) → Forest
@@ -32,17 +33,6 @@ Walks names reply kept decided x kept' decided' (Ok done) = (rest : List (Elemen
 Walks names reply kept decided x kept' decided' (Err e) = (rest : List (Element ℕ)) → RefusesIn names reply (on_from reply kept decided (x ∷ rest)) e
 
 -- A list as elements.
-elements_of : (closes : Bool) (ts : List Tree) → elements closes (forest_of ts) ≡ map (as_element closes) ts
-elements_of closes [] = refl
-elements_of closes (t ∷ ts) = ap (λ xs. as_element closes t ∷ xs) (elements_of closes ts)
-
-map_of : {A B C : Type 0} (f : A → B) (g : B → C) (xs : List A) → map (λ x. g (f x)) xs ≡ map g (map f xs)
-map_of f g [] = refl
-map_of f g (x ∷ xs) = ap (λ r. g (f x) ∷ r) (map_of f g xs)
-
-elements_as : {A : Type 0} (closes : Bool) (view : A → Tree) (xs : List A) → map (λ x. as_element closes (view x)) xs ≡ elements closes (forest_of (map view xs))
-elements_as closes view xs = map_of view (as_element closes) xs ∙ sym (elements_of closes (map view xs))
-
 -- One branch.
 abbrev open_one : Label → Forest → Element ℕ
 open_one l c = record { closes = false; label = l; children = c }

@@ -1,5 +1,5 @@
 -- How faults are gathered with all that ask for each.
-use Rattle.std.proofs.Common.{◌≡◌, ◌⊎◌, inl, inr, ℕ, ◌<◌, ◌+◌, List, [], ◌∷◌, ◌++◌, length, slice_get, slice_index_or, Option, Some, None, IfSome, IfNone, Contains, map, take, arith, subst, sym, ap, refl, ◌∙◌, ◌≤◌}
+use Rattle.std.proofs.Common.{◌≡◌, inl, inr, ℕ, ◌<◌, ◌+◌, List, [], ◌∷◌, ◌++◌, length, slice_get, slice_index_or, Option, Some, None, IfSome, IfNone, Contains, map, take, arith, subst, sym, ap, refl, ◌∙◌, ◌≤◌}
 use Rattle.std.proofs.lemmas.List.{get_or-map, length-map, take_all, take_more}
 use Rattle.std.proofs.lemmas.List.Elements.{Contains-push, Contains-push_cases, Contains-append_left}
 use Rattle.std.proofs.lemmas.Option.{slice_get-get_or}
@@ -16,23 +16,17 @@ use Rattle.wesl_link_faults.proofs.Over.{IsOver, all, next, over_with, start, wi
 use Rattle.wesl_explain_faults.specs.declared.faults.FaultAt.{FaultAt}
 use Rattle.wesl_explain_faults.specs.declared.faults.Wrong.{Wrong}
 use Rattle.wesl_explain_faults.specs.Gathering.{AreAskers, AreWrongs, HaveAskers, IsFoundIn, wrong_in}
+use Rattle.wesl_link_faults.proofs.Searching.{puts_cases}
+use Rattle.wesl_link_reach.proofs.Following.{puts_has}
 
 -- that one asks for the fault in one of the findings
 abbrev pub IsAskedIn : List Finding → Wrong → Asker PathId NameId → Type 0
 IsAskedIn told w a = (f : Finding) × Contains told f × (wrong_in f ≡ w) × (f.asker ≡ a)
 
 -- a key stays, or is the one that was put
-pub puts_cases : {K : Type 0} (old new : List K) (k x : K) → PutsKey old k new → Contains new x → Contains old x ⊎ (k ≡ x)
-puts_cases {K} old new k x (inl (there, e)) h = inl (subst (λ (xs : List K). Contains xs x) e h)
-puts_cases {K} old new k x (inr (fresh, e)) h = Contains-push_cases old k x (subst (λ (xs : List K). Contains xs x) e h)
-
 pub puts_kept : {K : Type 0} (old new : List K) (k x : K) → PutsKey old k new → Contains old x → Contains new x
 puts_kept {K} old new k x (inl (there, e)) h = subst (λ (xs : List K). Contains xs x) (sym e) h
 puts_kept {K} old new k x (inr (fresh, e)) h = subst (λ (xs : List K). Contains xs x) (sym e) (Contains-append_left old (k ∷ []) x h)
-
-puts_there : {K : Type 0} (old new : List K) (k : K) → PutsKey old k new → Contains new k
-puts_there {K} old new k (inl (there, e)) = subst (λ (xs : List K). Contains xs k) (sym e) there
-puts_there {K} old new k (inr (fresh, e)) = subst (λ (xs : List K). Contains xs k) (sym e) (Contains-push old k)
 
 -- one finding more is tied
 pub tie_next : (told : List Finding) (i : ℕ) (d : Finding) (k : Wrong) (o : Option ℕ) (latest fresh : List (Wrong × ℕ)) (earlier longer : List (Option ℕ))
@@ -64,7 +58,7 @@ pub first_next : (told : List Finding) (i : ℕ) (d : Finding) (old new : List W
 first_next told i d old new k b is put before f h =
     elim (Contains-push_cases (take i told) (slice_index_or told i d) f (subst (λ (fs : List Finding). Contains fs f) (take_more told i d b) h)) [
       | inl was ↦ puts_kept old new k (wrong_in f) put (before f was)
-      | inr same ↦ subst (λ (q : Wrong). Contains new q) (is ∙ ap wrong_in same) (puts_there old new k put)
+      | inr same ↦ subst (λ (q : Wrong). Contains new q) (is ∙ ap wrong_in same) (puts_has old new k put)
     ]
 
 -- after the last finding all are there

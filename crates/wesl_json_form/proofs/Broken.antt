@@ -285,7 +285,7 @@ known-found k (inner_where x head ins row) d h = elim (has-append k (if is_some 
 
 -- ---- members and items
 
-same-text : (k l : Text) → slice_cmp nat_cmp k l ≡ Equal → k ≡ l
+pub same-text : (k l : Text) → slice_cmp nat_cmp k l ≡ Equal → k ≡ l
 same-text k l h = (bytes_eq-Decides k l).0 (sym (is_eq-slice_cmp k l) ∙ ap is_eq h)
 
 -- what is not so of one member is not so of all
@@ -310,7 +310,7 @@ members-float : (k : Text) (e : Data) (ms : Members) → get_member k ms ≡ Som
 members-float k e no_members there h = absurd (no_value e (sym there))
 members-float k e (member l x ms) there h = float-by-order x e (slice_cmp nat_cmp k l) (get_member k ms) (members_have_float ms) h (λ is. members-float k e ms is h) there
 
-items-float : (i : ℕ) (e : Data) (ds : Items) → get_item i ds ≡ Some e → has_float e ≡ true → items_have_float ds ≡ true
+pub items-float : (i : ℕ) (e : Data) (ds : Items) → get_item i ds ≡ Some e → has_float e ≡ true → items_have_float ds ≡ true
 items-float i e no_items there h = absurd (no_value e (sym there))
 items-float zero e (item d ds) there h = ap (λ b. b || items_have_float ds) (ap has_float (some_same there) ∙ h)
 items-float (suc i) e (item d ds) there h = ap (λ b. has_float d || b) (items-float i e ds there h) ∙ or-true (has_float d)

@@ -1,7 +1,5 @@
 -- The keys of members that stand one after another.
-use Rattle.std.proofs.Common.{◌≡◌, ℕ, ◌+◌, ◌<◌, List, [], ◌∷◌, length, get_or, map, drop, Bool, true, false, ◌&&◌, is_eq, Bor, Ordering, Less, Equal, Greater, refl, sym, ap, ◌∙◌, add-one, drop-cons}
-use Rattle.std.proofs.lemmas.Map.Text.{is_eq-slice_cmp}
-use Rattle.std.proofs.lemmas.Slice.Eq.{bytes_eq-Decides}
+use Rattle.std.proofs.Common.{◌≡◌, ℕ, ◌+◌, ◌<◌, List, [], ◌∷◌, length, get_or, map, drop, Bool, true, false, ◌&&◌, Bor, Ordering, Less, Equal, Greater, refl, sym, ap, ◌∙◌, add-one, drop-cons}
 use Rattle.std.specs.Cmp.Lexicographic.{slice_cmp}
 use Rattle.std.specs.List.{list_any}
 use Rattle.std.specs.Ordering.{nat_cmp, match_ordering}
@@ -13,6 +11,7 @@ use Rattle.wesl_json_form.specs.declared.key.Key.{Key}
 use Rattle.wesl_json_form.specs.declared.value.BorrowedValue.{BorrowedValue}
 use Rattle.wesl_json_form.specs.Keys.{all_known, keys_beside}
 use mathlib.Core.Bool.{and-true}
+use Rattle.wesl_json_form.proofs.Broken.{same-text}
 
 abbrev pub Entry : Type 0
 Entry = Key × BorrowedValue
@@ -56,13 +55,10 @@ known-put_at Equal known k l d e ms same later =
 known-put_at Greater known k l d e ms same later =
     ap (λ r. is_known known l && r) later ∙ swapped (is_known known l) (is_known known k) (all_known known ms)
 
-same_key : (k l : Text) → slice_cmp nat_cmp k l ≡ Equal → k ≡ l
-same_key k l is = (bytes_eq-Decides k l).0 (sym (is_eq-slice_cmp k l) ∙ ap is_eq is)
-
 -- a member that is put adds its key, whether the key was there or not
 known-put : (known : List Text) (k : Text) (d : Data) (ms : Members) → all_known known (put k d ms) ≡ (is_known known k && all_known known ms)
 known-put known k d no_members = refl
-known-put known k d (member l e ms) = known-put_at (slice_cmp nat_cmp k l) known k l d e ms (same_key k l) (known-put known k d ms)
+known-put known k d (member l e ms) = known-put_at (slice_cmp nat_cmp k l) known k l d e ms (same-text k l) (known-put known k d ms)
 
 known-put_all : (known : List Text) (es : List Entry) (found : Members) → all_known known (put_all (map (λ m. (m.0, borrowed_view m.1)) es) found) ≡ (keys_known known es && all_known known found)
 known-put_all known [] found = refl

@@ -11,6 +11,7 @@ use Rattle.wesl_json_form.specs.Nodes.{NodeWords, by_word, nodes_of, all_express
 use Rattle.wesl_json_form.specs.Writing.{fits_head, fits_row, first_fit, candidates}
 use Rattle.wesl_json_laws.specs.Places.{is_place}
 use mathlib.Core.Bool.{and-true}
+use Rattle.wesl_json_light.proofs.Keys.{and_left, and_right}
 
 abbrev pub is_unit : Name → Bool
 is_unit a_unit = true
@@ -59,18 +60,6 @@ bare_node n = bare_head n.head && bare_row n.row
 abbrev pub if_bare : Option Node → Bool
 if_bare None = true
 if_bare (Some n) = bare_node n
-
-pub and_left : (a b : Bool) → (a && b) ≡ true → a ≡ true
-and_left true b h = refl
-and_left false b h = h
-
-pub and_right : (a b : Bool) → (a && b) ≡ true → b ≡ true
-and_right true b h = h
-and_right false b h = absurd (let x : ⊥ = cc in x)
-
-pub not_true : (a : Bool) → not a ≡ true → a ≡ false
-not_true false h = refl
-not_true true h = absurd (let x : ⊥ = cc in x)
 
 -- ---- the nodes that are written
 

@@ -15,15 +15,15 @@ abbrev pub distinct : List Text → Bool
 distinct [] = true
 distinct (k ∷ ks) = not (is_in k ks) && distinct ks
 
-and_left : (a b : Bool) → (a && b) ≡ true → a ≡ true
+pub and_left : (a b : Bool) → (a && b) ≡ true → a ≡ true
 and_left true b h = refl
 and_left false b h = h
 
-and_right : (a b : Bool) → (a && b) ≡ true → b ≡ true
+pub and_right : (a b : Bool) → (a && b) ≡ true → b ≡ true
 and_right true b h = h
 and_right false b h = absurd (let x : ⊥ = cc in x)
 
-not_true : (a : Bool) → not a ≡ true → a ≡ false
+pub not_true : (a : Bool) → not a ≡ true → a ≡ false
 not_true false h = refl
 not_true true h = absurd (let x : ⊥ = cc in x)
 

@@ -43,11 +43,11 @@ is_in k ks = list_any (λ x. bytes_eq x k) ks
 pub same_text : (k : Text) → bytes_eq k k ≡ true
 same_text k = (bytes_eq-Decides k k).1 refl
 
-or_left : (a b : Bool) → (a || b) ≡ false → a ≡ false
+pub or_left : (a b : Bool) → (a || b) ≡ false → a ≡ false
 or_left false b h = refl
 or_left true b h = h
 
-or_right : (a b : Bool) → (a || b) ≡ false → b ≡ false
+pub or_right : (a b : Bool) → (a || b) ≡ false → b ≡ false
 or_right false b h = h
 or_right true b h = absurd (let x : ⊥ = cc in x)
 

@@ -1,5 +1,5 @@
 -- What is written has no number that is not whole.
-use Rattle.std.proofs.Common.{◌≡◌, Bool, true, false, ◌||◌, refl, Ordering, Less, Equal, Greater}
+use Rattle.std.proofs.Common.{◌≡◌, false, refl, Ordering, Less, Equal, Greater}
 use Rattle.std.specs.Ordering.{nat_cmp, match_ordering}
 use Rattle.std.specs.Cmp.Lexicographic.{slice_cmp}
 use Rattle.serde_json.specs.Data.{Data, Items, Members, no_members, member, put}
@@ -8,6 +8,7 @@ use Rattle.wesl_tree_names.specs.Path.{Text}
 use Rattle.wesl_json_light.specs.Readable.{HaveNoFloat}
 use Rattle.wesl_json_light.proofs.Held.{IsKept, unit_kept}
 use Rattle.std.proofs.lemmas.Bool.{or_from}
+use Rattle.wesl_json_light.proofs.Rows.{or_left, or_right}
 
 abbrev Whole : Data → Type 0
 Whole d = has_float d ≡ false
@@ -18,14 +19,6 @@ WholeItems ds = items_have_float ds ≡ false
 abbrev WholeMembers : Members → Type 0
 WholeMembers ms = members_have_float ms ≡ false
 
-first_false : (a b : Bool) → (a || b) ≡ false → a ≡ false
-first_false false b h = refl
-first_false true b h = h
-
-second_false : (a b : Bool) → (a || b) ≡ false → b ≡ false
-second_false false b h = h
-second_false true b h = absurd (let x : ⊥ = cc in x)
-
 put_at : (o : Ordering) (k l : Text) (d e : Data) (ms : Members) → Whole d → Whole e → WholeMembers ms → WholeMembers (put k d ms) → WholeMembers (match_ordering o (member k d (member l e ms)) (member l d ms) (member l e (put k d ms)))
 put_at Less k l d e ms a b c f = rw (a, b, c) refl
 put_at Equal k l d e ms a b c f = rw (a, c) refl
@@ -34,8 +27,8 @@ put_at Greater k l d e ms a b c f = rw (b, f) refl
 put_whole : (k : Text) (d : Data) (ms : Members) → Whole d → WholeMembers ms → WholeMembers (put k d ms)
 put_whole k d no_members a b = rw a refl
 put_whole k d (member l e ms) a b =
-    let c = first_false (has_float e) (members_have_float ms) b in
-    let r = second_false (has_float e) (members_have_float ms) b in
+    let c = or_left (has_float e) (members_have_float ms) b in
+    let r = or_right (has_float e) (members_have_float ms) b in
     put_at (slice_cmp nat_cmp k l) k l d e ms a c r (put_whole k d ms a r)
 
 whole_kept : IsKept Whole WholeItems WholeMembers

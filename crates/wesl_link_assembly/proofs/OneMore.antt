@@ -1,5 +1,5 @@
 -- One more directive is met, and the directives of a module one after the other.
-use Rattle.std.proofs.Common.{◌≡◌, ℕ, ◌+◌, ◌<◌, Some, List, [], ◌∷◌, ◌++◌, length, map, get_or, take, refl, sym, ◌∙◌, ap, subst, append_assoc}
+use Rattle.std.proofs.Common.{◌≡◌, ℕ, ◌+◌, ◌<◌, Some, List, [], ◌∷◌, ◌++◌, length, map, get_or, take, sym, ◌∙◌, ap, subst, append_assoc}
 use Rattle.std.specs.Prelude.{flat_map}
 use Rattle.std.proofs.lemmas.List.{map-append, take_more}
 use denote.Ref.{Bor}
@@ -18,6 +18,7 @@ use Rattle.wesl_link_assembly.specs.declared.thinning.Met.{Met}
 use Rattle.wesl_link_assembly.specs.declared.thinning.Thinning.{Thinning}
 use Rattle.wesl_link_assembly.proofs.Thinned.{last_is, stays, goes}
 use Rattle.wesl_link_assembly.proofs.Words.{spelled_node}
+use Rattle.wesl_scope_occurrences.proofs.Cutting.{append_nil}
 
 abbrev node_of : Met → Tree
 node_of m = placed directive_view directive_node m.directive.now
@@ -53,12 +54,8 @@ next_met names all xs i x h is =
     ∙ ap (λ ts. all ++ ts) (sym (ap (map (spelled_node names)) (take_more xs i x h)
     ∙ (map-append (spelled_node names) (take i xs) (get_or xs i x ∷ []) ∙ ap (λ y. map (spelled_node names) (take i xs) ++ spelled_node names y ∷ []) (sym is))))
 
-no_more : {X : Type 0} (xs : List X) → xs ++ [] ≡ xs
-no_more [] = refl
-no_more (x ∷ xs) = ap (λ ys. x ∷ ys) (no_more xs)
-
 flat_more : {X Y : Type 0} (f : X → List Y) (xs : List X) (x : X) → flat_map f (xs ++ x ∷ []) ≡ flat_map f xs ++ f x
-flat_more f [] x = no_more (f x)
+flat_more f [] x = append_nil (f x)
 flat_more f (y ∷ ys) x = ap (λ zs. f y ++ zs) (flat_more f ys x) ∙ sym (append_assoc (f y) (flat_map f ys) (f x))
 
 abbrev pub units_view : List (Bor TranslationUnit) → List (TreeOf Text)

@@ -15,7 +15,7 @@ use Rattle.wesl_link_assembly.specs.Linked.{nodes_of}
 abbrev pub shape_of : {I : Type 0} → ForestOf I → ForestOf (Unit {0})
 shape_of = respell_forest (λ i. tt)
 
-paired : {J : Type 0} (l : LabelOf J) (a b c d : ForestOf J) → a ≡ c → b ≡ d → tree l a b ≡ tree l c d
+pub paired : {J : Type 0} (l : LabelOf J) (a b c d : ForestOf J) → a ≡ c → b ≡ d → tree l a b ≡ tree l c d
 paired l a b c d e f = ap (λ x. tree l x b) e ∙ ap (λ x. tree l c x) f
 
 -- all but the identifiers stays

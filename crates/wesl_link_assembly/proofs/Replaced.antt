@@ -1,10 +1,8 @@
 -- Trees whose identifiers are replaced.
 use Rattle.std.proofs.Common.{◌≡◌, List, ◌∷◌, ◌++◌, map, refl, sym, ◌∙◌, ap}
 use Rattle.std.proofs.lemmas.List.{map-append}
-use Rattle.wesl_tree_syntax.specs.Tree.{LabelOf, ForestOf, end, tree, kind, at, ident, text, texts, truth, unary, binary, assignment, space, access, path, identifiers, respell_forest}
-
-paired : {J : Type 0} (l : LabelOf J) (a b c d : ForestOf J) → a ≡ c → b ≡ d → tree l a b ≡ tree l c d
-paired l a b c d e f = ap (λ x. tree l x b) e ∙ ap (λ x. tree l c x) f
+use Rattle.wesl_tree_syntax.specs.Tree.{ForestOf, end, tree, kind, at, ident, text, texts, truth, unary, binary, assignment, space, access, path, identifiers, respell_forest}
+use Rattle.wesl_link_assembly.proofs.Renumbered.{paired}
 
 -- replaced twice, or once
 module _ {I J L : Type 0} (g : I → J) (k : J → L) (h : I → L) (same : (x : I) → h x ≡ k (g x)) where

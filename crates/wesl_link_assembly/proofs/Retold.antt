@@ -12,16 +12,11 @@ use Rattle.wesl_link_assembly.specs.Linked.{shape, printed_unit, IsLinkedAs}
 use Rattle.wesl_link_assembly.proofs.Pathless.{respelled_without}
 use Rattle.wesl_link_assembly.proofs.Replaced.{replaced_twice}
 use Rattle.wesl_link_assembly.proofs.Units.{one_unit}
-
-paired : {J : Type 0} (l : LabelOf J) (a b c d : ForestOf J) → a ≡ c → b ≡ d → tree l a b ≡ tree l c d
-paired l a b c d e f = ap (λ x. tree l x b) e ∙ ap (λ x. tree l c x) f
+use Rattle.wesl_link_assembly.proofs.Renumbered.{paired}
+use Rattle.wesl_scope_clash.proofs.Canonical.{mapped_length}
 
 abbrev forget : {I : Type 0} → I → Unit {0}
 forget i = tt
-
-as_many : {X Y : Type 0} (f : X → Y) (xs : List X) → length (map f xs) ≡ length xs
-as_many f [] = refl
-as_many f (x ∷ xs) = ap suc (as_many f xs)
 
 told_at : {X Y : Type 0} (f : X → Y) (xs : List X) (i : ℕ) (d : X) (e : Y) → i < length xs → get_or (map f xs) i e ≡ f (get_or xs i d)
 told_at f [] i d e h = absurd (omega (arith, h))
@@ -114,7 +109,7 @@ module _ {K L : Type 0} (f : K → L) where
     by_first = λ i m h. absurd (omega (arith, h));
   }
   same_numbers (x ∷ xs) ns apart s =
-      let many = as_many f (x ∷ xs) in
+      let many = mapped_length f (x ∷ xs) in
       record {
         one_each = s.one_each ∙ sym many;
         equal_where_keys = λ d i j hi hj.

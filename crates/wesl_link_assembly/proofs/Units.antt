@@ -2,9 +2,7 @@
 use Rattle.std.proofs.Common.{◌≡◌}
 use Rattle.wesl_tree_syntax.specs.Tree.{LabelOf, ForestOf}
 use Rattle.wesl_tree_syntax.specs.Unit.{UnitOf, forest_of_unit}
-
-unit_with : {X : Type 0} (a : LabelOf X) (b : ForestOf X) (c : LabelOf X) (d : ForestOf X) (e : LabelOf X) (f : ForestOf X) → UnitOf X
-unit_with a b c d e f = record { imports = record { label = a; children = b }; directives = record { label = c; children = d }; declarations = record { label = e; children = f } }
+use Rattle.wesl_scope_clash.proofs.Taken.{unit_with}
 
 one_of : {X : Type 0} (a a' : LabelOf X) (b b' : ForestOf X) (c c' : LabelOf X) (d d' : ForestOf X) (e e' : LabelOf X) (f f' : ForestOf X) → a ≡ a' → b ≡ b' → c ≡ c' → d ≡ d' → e ≡ e' → f ≡ f' → unit_with a b c d e f ≡ unit_with a' b' c' d' e' f'
 one_of a a' b b' c c' d d' e e' f f' p q r s t u = cc

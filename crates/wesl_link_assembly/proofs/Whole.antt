@@ -1,11 +1,9 @@
 -- A whole unit whose identifiers stand for something.
-use Rattle.std.proofs.Common.{◌≡◌, ℕ, zero, suc, ◌<◌, Bool, true, false, ◌&&◌, Option, Some, None, List, [], ◌∷◌, length, map, get_or, refl, sym, ◌∙◌, ap, subst, arith, ◌↔◌}
-use Rattle.std.specs.Prelude.{MatchOption}
-use Rattle.std.specs.Option.{IsSome}
+use Rattle.std.proofs.Common.{◌≡◌, ℕ, zero, suc, ◌<◌, true, List, [], ◌∷◌, length, map, get_or, refl, sym, ◌∙◌, ap, subst, arith, ◌↔◌}
 use Rattle.std.specs.List.{All, Contains}
 use Rattle.std.proofs.lemmas.Grind.{get_or_default_zero}
 use Rattle.wesl_tree_names.specs.Path.{Text}
-use Rattle.wesl_tree_syntax.specs.Tree.{Tree, Forest, end, tree, branch, identifiers, respell, respell_forest, forest_below, tree_below, imports as imports_kind}
+use Rattle.wesl_tree_syntax.specs.Tree.{Tree, Forest, tree, branch, identifiers, respell, respell_forest, forest_below, imports as imports_kind}
 use Rattle.wesl_tree_syntax.specs.Unit.{UnitOf, UnitView, forest_of_unit, trees_of, name_in, spelled, unit_below}
 use Rattle.wesl_tree_syntax.specs.Numbers.{AreNumbers, number_at}
 use Rattle.wesl_tree_copies.specs.Renumbered.{renumbered}
@@ -13,7 +11,7 @@ use Rattle.wesl_tree_renumber.specs.Renumbers.{Renumbered as NumberedTree}
 use Rattle.wesl_tree_renumber.specs.declared.renumbering.Renumbering.{Renumbering}
 use Rattle.wesl_scope_clash.specs.Leaves.{are_leaves}
 use Rattle.wesl_scope_clash.proofs.Taken.{numbers_are, taken}
-use Rattle.wesl_scope_clash.proofs.Units.{each_below}
+use Rattle.wesl_scope_clash.proofs.Units.{each_below, parts_below}
 use Rattle.wesl_link_assembly.specs.Pathless.{without_paths}
 use Rattle.wesl_link_assembly.specs.Linked.{printed_unit, IsLinkedAs}
 use Rattle.wesl_link_assembly.proofs.Pathless.{same_identifiers, respelled_without}
@@ -21,13 +19,10 @@ use Rattle.wesl_link_assembly.proofs.Replaced.{replaced_twice, identifiers_repla
 use Rattle.wesl_link_assembly.proofs.Units.{one_unit}
 use Rattle.wesl_link_assembly.proofs.Renumbered.{same_shape}
 use Rattle.wesl_link_assembly.proofs.Numbering.{Numbered, at_number}
+use Rattle.wesl_scope_clash.proofs.Canonical.{mapped_length}
 
 abbrev forget : {I : Type 0} → I → Unit {0}
 forget i = tt
-
-pub same_length : {X Y : Type 0} (f : X → Y) (xs : List X) → length (map f xs) ≡ length xs
-same_length f [] = refl
-same_length f (x ∷ xs) = ap suc (same_length f xs)
 
 -- each number that is below the count stands among the numbers, and no other does
 abbrev pub AreAllUsed : ℕ → List ℕ → Type 0
@@ -61,7 +56,7 @@ module _ {K : Type 0} (print : K → Text) (nothing : K) (silent : print nothing
         meanings = identifiers_replaced h x ∙ (ap (map h) numbers_is ∙ leads);
         named = one_unit (spelled unit) (printed_unit print linked) (replaced_twice h print (name_in unit.names) (λ n. ap (λ ns. name_in ns n) names ∙ name_of_number seen n) x);
         numbered = subst (AreNumbers ks) (sym numbers_is) are;
-        table = same_use (length seen) (length unit.names) ns (identifiers x) (ap length names ∙ same_length print seen) numbers_is used;
+        table = same_use (length seen) (length unit.names) ns (identifiers x) (ap length names ∙ mapped_length print seen) numbers_is used;
       }
 
 -- what the code's numbers lead to
@@ -105,15 +100,6 @@ module _ {K : Type 0} (nothing : K) where
 still_below : (n : ℕ) (f : Forest) (ns : List ℕ) → are_leaves f ≡ true → length ns ≡ length (identifiers f) → All (λ m. m < n) ns → forest_below n (renumbered f ns) ≡ true
 still_below n f ns l h b = ((taken f ns l (omega (arith, h))).below n (each_below n ns b)).0
 
-three : (a b c : Bool) → (a && (b && (c && true))) ≡ true → (a && b && c) ≡ true
-three true true true h = refl
-three true true false h = h
-three true false c h = cc
-three false b c h = h
-
-parts_below : (n : ℕ) (i d e : Tree) → forest_below n (tree i.label i.children (tree d.label d.children (tree e.label e.children end))) ≡ true → (tree_below n i && tree_below n d && tree_below n e) ≡ true
-parts_below n i d e h = three (tree_below n i) (tree_below n d) (tree_below n e) h
-
 -- from what directives and declarations become, one after the other
 pub made : (names : List Text) {old first new : Renumbering} {td te : Tree} (i d e : Tree) → i ≡ branch imports_kind [] → NumberedTree old first td d → NumberedTree first new te e
     → forest_of_unit (trees_of (record { names = names; imports = i; directives = d; declarations = e })) ≡ renumbered (forest_of_unit (record { imports = branch imports_kind []; directives = td; declarations = te })) old.rest.now
@@ -123,10 +109,3 @@ pub all_named : (names : List Text) (ns : List ℕ) (nodes : UnitOf ℕ) (w : Un
 all_named names ns nodes w l n f h b =
     parts_below (length w.names) w.imports w.directives w.declarations
     (subst (λ k. forest_below k (forest_of_unit (trees_of w)) ≡ true) (sym (ap length n)) (subst (λ g. forest_below (length names) g ≡ true) (sym f) (still_below (length names) (forest_of_unit nodes) ns l h b)))
-
-pub some_if : {X : Type 0} (r : Option X) (b : Bool) (Q : X → Type 0) → MatchOption r (b ≡ false) Q → b ≡ true → IsSome r
-some_if None b Q h e = let f : true ≡ false = sym e ∙ h in cc
-some_if (Some x) b Q h e = refl
-
-pub some_of : {X : Type 0} (r : Option X) (x : X) (P : Type 0) (Q : X → Type 0) → r ≡ Some x → MatchOption r P Q → Q x
-some_of r x P Q e h = subst (λ o. MatchOption o P Q) e h

@@ -15,7 +15,7 @@ use Rattle.wesl_link_symbols.specs.declared.ids.PathId.{PathId}
 use Rattle.wesl_tree_base.specs.declared.ids.NameId.{NameId}
 use Rattle.wesl_link_symbols.specs.Tables.{Declaration, Table}
 use Rattle.wesl_link_reach.specs.Linking.{Linking}
-use Rattle.wesl_link_reach.proofs.Lists.{map_contains}
+use Rattle.wesl_link_reach.proofs.Lists.{length_map, map_contains}
 use Rattle.wesl_scope_occurrences.specs.Occurrences.{occurrences}
 use Rattle.wesl_scope_occurrences.specs.Pieces.{size, declarations_in, pieces}
 use Rattle.wesl_link_tables.specs.Imports.{first_label}
@@ -37,9 +37,11 @@ use Rattle.wesl_link_engine.specs.declared.loaded.LoadedModule.{LoadedModule}
 use Rattle.wesl_link_engine.specs.declared.link.Link.{Link}
 use Rattle.wesl_link_engine.specs.declared.assemble.Parts.{Parts}
 use Rattle.wesl_link_engine.proofs.Carried.{Covers}
-use Rattle.wesl_link_engine.proofs.Lists.{item_held, read_at, take_at, map_at, paired_at, declarations_at, related_at, same_length, related_length, paired_length, declarations_length, cut_length, trees_of}
+use Rattle.wesl_link_engine.proofs.Lists.{item_held, read_at, take_at, paired_at, declarations_at, related_at, related_length, paired_length, declarations_length, cut_length}
 use Rattle.wesl_link_engine.proofs.Meant.{refers_to_all, all_clear, is_held, meanings_told}
 use Rattle.wesl_link_engine.proofs.Parted.{shape_replaced, adds_not, adds_one}
+use Rattle.wesl_link_tables.proofs.Nodes.{trees-forest_of}
+use Rattle.wesl_tree_interner.proofs.Interning.{get_map}
 
 abbrev pub Node : Type 0
 Node = Spanned GlobalDeclaration
@@ -85,11 +87,11 @@ all_trees : (m : LoadedModule) (gs : List Node) → HasNodes m gs → declaratio
 all_trees m gs e =
     let apart : map (spelled_in m) gs ≡ map (respell (name_in (unit_view m.unit).names)) (map (placed_tree global_view declaration_node) gs) = simp map-map in
     trees_respelled (name_in (unit_view m.unit).names) (unit_view m.unit).declarations.children
-    ∙ (ap (map (respell (name_in (unit_view m.unit).names))) (ap trees e ∙ trees_of (map (placed_tree global_view declaration_node) gs)) ∙ sym apart)
+    ∙ (ap (map (respell (name_in (unit_view m.unit).names))) (ap trees e ∙ trees-forest_of (map (placed_tree global_view declaration_node) gs)) ∙ sym apart)
 
 uses_length : (own : Path) (u : UnitOf Text) → length (uses own u) ≡ length (declarations_in u)
 uses_length own u =
-    same_length (map (use_of (scope_of own u) (occurrences u))) (pieces u) ∙ cut_length (declarations_in u) (drop (size u.directives) (drop (size u.imports) (occurrences u)))
+    length_map (map (use_of (scope_of own u) (occurrences u))) (pieces u) ∙ cut_length (declarations_in u) (drop (size u.directives) (drop (size u.imports) (occurrences u)))
 
 -- what stands at a place of a module's declarations, with its row in the table and its marks
 pub record OneAt (nb : Numbering) (m : LoadedModule) (i : ℕ) (g : Node) (row : Declaration PathId NameId) (ms : List Mark) : Type 0 where
@@ -107,7 +109,7 @@ module _ (nb : Numbering) (m : LoadedModule) (t : Table PathId NameId) (same : I
   unit = (module_of m).unit
 
   trees_many : length (declarations_in unit) ≡ length gs
-  trees_many = ap length (all_trees m gs all) ∙ same_length (spelled_in m) gs
+  trees_many = ap length (all_trees m gs all) ∙ length_map (spelled_in m) gs
 
   -- as many rows, and as many marks
   pub rows_many : length t.declarations ≡ length gs
@@ -124,7 +126,7 @@ module _ (nb : Numbering) (m : LoadedModule) (t : Table PathId NameId) (same : I
   pub one_at : (i : ℕ) (g : Node) (row : Declaration PathId NameId) (ms : Vec Mark Global) → slice_get gs i ≡ Some g → slice_get t.declarations i ≡ Some row → slice_get m.marks.items i ≡ Some ms → OneAt nb m i g row ms.items
   one_at i g row ms g_at row_at ms_at =
       let (us, us_at, is_marked) = related_at (λ (v : Vec Mark Global) us. AreRelated (IsMark nb) v.items us) m.marks.items (uses own unit) marked i ms ms_at in
-      let tree_at : slice_get (declarations_in unit) i ≡ Some (spelled_in m g) = ap (λ ts. slice_get ts i) (all_trees m gs all) ∙ map_at (spelled_in m) gs i g g_at in
+      let tree_at : slice_get (declarations_in unit) i ≡ Some (spelled_in m g) = ap (λ ts. slice_get ts i) (all_trees m gs all) ∙ get_map (spelled_in m) gs i g g_at in
       let (d, d_at, is_d) = related_at (SameDeclaration (PathAt nb) (NameAt nb)) t.declarations (table (module_of m)).declarations same.declarations i row row_at in
       let (n, there) = declarations_at own unit 0 (declarations_in unit) (uses own unit) i (spelled_in m g) us tree_at us_at in
       let both : Some d ≡ Some (declaration_of (scope_of own unit) n (spelled_in m g) us) = sym d_at ∙ there in

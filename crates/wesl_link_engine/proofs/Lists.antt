@@ -3,7 +3,7 @@ use Rattle.std.proofs.Common.{◌≡◌, ◌⊎◌, inl, inr, ℕ, zero, suc, �
 use Rattle.std.specs.Prelude.{slice_get, flat_map}
 use Rattle.std.proofs.lemmas.List.Elements.{Contains-append_cases, Contains-append_left, Contains-append_right}
 use Rattle.wesl_tree_names.specs.Path.{Text, Path}
-use Rattle.wesl_tree_syntax.specs.Tree.{TreeOf, trees, forest_of}
+use Rattle.wesl_tree_syntax.specs.Tree.{TreeOf}
 use Rattle.wesl_tree_syntax.specs.Unit.{UnitOf}
 use Rattle.wesl_link_symbols.proofs.Lists.{contains_nil, contains_first, contains_later, contains_cases}
 use Rattle.wesl_scope_occurrences.specs.Pieces.{size, cut}
@@ -12,6 +12,7 @@ use Rattle.wesl_link_tables.specs.Tables.{paired, scope_of, declaration_of, decl
 use Rattle.wesl_link_tables.specs.Uses.{Use}
 use Rattle.wesl_link_engine.specs.Linked.{Selects, Joins}
 use Rattle.wesl_link_engine.specs.Linked.{Selects as selects, Joins as joins}
+use Rattle.wesl_link_tables.proofs.Known.{below_held}
 
 -- ---- what stands at a place
 
@@ -25,23 +26,13 @@ at_has [] i x e = absurd (cc)
 at_has (y ∷ xs) zero x e = let f : y ≡ x = cc in subst (λ z. Contains (y ∷ xs) z) f (contains_first y xs)
 at_has (y ∷ xs) (suc i) x e = contains_later y x xs (at_has xs i x e)
 
-pub get_at : {X : Type 0} (xs : List X) (i : ℕ) (d : X) → i < length xs → slice_get xs i ≡ Some (get_or xs i d)
-get_at [] i d b = absurd (omega arith)
-get_at (x ∷ xs) zero d b = refl
-get_at (x ∷ xs) (suc i) d b = get_at xs i d (omega arith)
-
 pub read_at : {X : Type 0} (xs : List X) (i : ℕ) (x : X) → i < length xs → x ≡ get_or xs i x → slice_get xs i ≡ Some x
-read_at xs i x b e = get_at xs i x b ∙ ap Some (sym e)
+read_at xs i x b e = below_held xs i x b ∙ ap Some (sym e)
 
 pub take_at : {X : Type 0} (xs : List X) (i : ℕ) (x : X) → slice_get xs i ≡ Some x → take (i + 1) xs ≡ take i xs ++ x ∷ []
 take_at [] i x e = absurd (cc)
 take_at (y ∷ xs) zero x e = let f : y ≡ x = cc in ap (λ z. z ∷ []) f
 take_at (y ∷ xs) (suc i) x e = let n : suc i + 1 ≡ suc (i + 1) = omega arith in rw n (ap (λ l. y ∷ l) (take_at xs i x e))
-
-pub map_at : {X Y : Type 0} (f : X → Y) (xs : List X) (i : ℕ) (x : X) → slice_get xs i ≡ Some x → slice_get (map f xs) i ≡ Some (f x)
-map_at f [] i x e = absurd (cc)
-map_at f (y ∷ xs) zero x e = let h : y ≡ x = cc in ap (λ z. Some (f z)) h
-map_at f (y ∷ xs) (suc i) x e = map_at f xs i x e
 
 pub paired_at : {X Y Z : Type 0} (f : X → Y → Z) (xs : List X) (ys : List Y) (i : ℕ) (x : X) (y : Y) → slice_get xs i ≡ Some x → slice_get ys i ≡ Some y → slice_get (paired f xs ys) i ≡ Some (f x y)
 paired_at f [] ys i x y a b = absurd (cc)
@@ -66,10 +57,6 @@ related_at R (u ∷ xs) (v ∷ ys) h zero x e = let f : u ≡ x = cc in (v, refl
 related_at R (u ∷ xs) (v ∷ ys) h (suc i) x e = related_at R xs ys h.1 i x e
 
 -- ---- lengths
-
-pub same_length : {X Y : Type 0} (f : X → Y) (xs : List X) → length (map f xs) ≡ length xs
-same_length f [] = refl
-same_length f (x ∷ xs) = ap suc (same_length f xs)
 
 pub related_length : {X Y : Type 0} (R : X → Y → Type 0) (xs : List X) (ys : List Y) → AreRelated R xs ys → length ys ≡ length xs
 related_length R [] [] h = refl
@@ -105,10 +92,6 @@ in_flat_map {X} {Y} g (z ∷ xs) x y h k = by (contains_cases z x xs h) (in_flat
 pub flat_map-map : {X Y Z : Type 0} (f : Y → List Z) (g : X → Y) (xs : List X) → flat_map f (map g xs) ≡ flat_map (λ x. f (g x)) xs
 flat_map-map f g [] = refl
 flat_map-map f g (x ∷ xs) = ap (λ l. f (g x) ++ l) (flat_map-map f g xs)
-
-pub trees_of : {I : Type 0} (ts : List (TreeOf I)) → trees (forest_of ts) ≡ ts
-trees_of [] = refl
-trees_of (t ∷ ts) = ap (λ us. t ∷ us) (trees_of ts)
 
 -- ---- what is selected, and what is joined
 

@@ -19,6 +19,7 @@ use Rattle.wesl_link_engine.specs.declared.resolutions.Resolutions.{Resolutions}
 use Rattle.wesl_link_engine.specs.GivenView.{given}
 use Rattle.wesl_link_engine.proofs.Built.{paths_one}
 use Rattle.wesl_link_engine.proofs.Named.{GivesTo, IsFreshAfter}
+use Rattle.wesl_scope_occurrences.proofs.Cutting.{append_nil}
 
 text_is : (nb : Numbering) (n : NameId) (x : Text) → NameAt nb n x → text_of nb n ≡ x
 text_is nb n x at = get_or_from_slice_get nb.names n.0 x [] at
@@ -63,16 +64,12 @@ recorded_then w xs ys before now after h k x =
     let e : now ≡ all_written w xs before = λ i y. h y i in
     k x ∙ (ap (λ (q : Record). all_written w ys q x) e ∙ sym (ap (λ (q : Record). q x) (written_more w xs ys before)))
 
-plus_nil : {X : Type 0} (xs : List X) → xs ++ [] ≡ xs
-plus_nil [] = refl
-plus_nil (x ∷ xs) = ap (λ ys. x ∷ ys) (plus_nil xs)
-
 assoc : {X : Type 0} (xs ys zs : List X) → (xs ++ ys) ++ zs ≡ xs ++ (ys ++ zs)
 assoc [] ys zs = refl
 assoc (x ∷ xs) ys zs = ap (λ ws. x ∷ ws) (assoc xs ys zs)
 
 pub writes_more : (f : Path → Text → Text) (ms : List Module) (m : Module) → writes_from f (ms ++ m ∷ []) ≡ writes_from f ms ++ writes_of f m.path (declared_names m)
-writes_more f [] m = plus_nil (writes_of f m.path (declared_names m))
+writes_more f [] m = append_nil (writes_of f m.path (declared_names m))
 writes_more f (k ∷ ms) m =
     ap (λ (ws : List Write). writes_of f k.path (declared_names k) ++ ws) (writes_more f ms m) ∙ sym (assoc (writes_of f k.path (declared_names k)) (writes_from f ms) (writes_of f m.path (declared_names m)))
 

@@ -13,7 +13,7 @@ use Rattle.wesl_tree_syntax.specs.declared.declaration.GlobalDirective.{GlobalDi
 use Rattle.wesl_tree.specs.Translation.{unit_view}
 use Rattle.wesl_link_symbols.specs.Tables.{Table}
 use Rattle.wesl_link_symbols.proofs.Lists.{contains_nil, contains_first, contains_later, contains_cases}
-use Rattle.wesl_link_reach.proofs.Lists.{contains_map}
+use Rattle.wesl_link_reach.proofs.Lists.{contains_map, length_map}
 use Rattle.wesl_scope_occurrences.specs.Laws.{PiecesAreDeclarations}
 use Rattle.wesl_scope_occurrences.specs.Occurrences.{Occurrence, occurrences}
 use Rattle.wesl_scope_occurrences.specs.Pieces.{declarations_in, pieces}
@@ -36,15 +36,15 @@ use Rattle.wesl_link_engine.specs.Holding.{nodes, printed_by, IsNamed, AreParts,
 use Rattle.wesl_link_engine.specs.declared.loaded.LoadedModule.{LoadedModule}
 use Rattle.wesl_link_engine.specs.declared.link.Link.{Link}
 use Rattle.wesl_link_engine.specs.declared.assemble.Parts.{Parts}
-use Rattle.wesl_link_engine.proofs.Lists.{same_length, related_length, flat_map-map, selected_in, joined_in}
+use Rattle.wesl_link_engine.proofs.Lists.{related_length, flat_map-map, selected_in, joined_in}
 use Rattle.wesl_link_engine.proofs.Parted.{identifiers_more}
 use Rattle.wesl_link_engine.proofs.Texts.{path_is, name_is, name_by, told_apart}
 
 -- trees of one shape have as many identifiers
 many_of : {I J : Type 0} (f : ForestOf I) (g : ForestOf J) → shape f ≡ shape g → length (identifiers f) ≡ length (identifiers g)
 many_of f g e =
-    sym (same_length (λ i. tt) (identifiers f)) ∙ (ap length (sym (identifiers_replaced (λ i. tt) f)) ∙ (ap (λ h. length (identifiers h)) e
-    ∙ (ap length (identifiers_replaced (λ i. tt) g) ∙ same_length (λ i. tt) (identifiers g))))
+    sym (length_map (λ i. tt) (identifiers f)) ∙ (ap length (sym (identifiers_replaced (λ i. tt) f)) ∙ (ap (λ h. length (identifiers h)) e
+    ∙ (ap length (identifiers_replaced (λ i. tt) g) ∙ length_map (λ i. tt) (identifiers g))))
 
 -- three lists under one node
 abbrev three : {I : Type 0} → ForestOf I → ForestOf I → ForestOf I
@@ -71,7 +71,7 @@ sized_each m f (t ∷ ts) (p ∷ ps) e d c =
     let rest : map (map name_in_it) ps ≡ map (λ t. identifiers (before t end)) ts = cc in
     let first : Placed = record { home = m; declaration = t; uses = map f p } in
     elim (contains_cases first d (paired (λ t us. record { home = m; declaration = t; uses = us }) ts (map (map f) ps)) c) [
-      | inl is ↦ subst (λ (x : Placed). IsSized x) is (same_length f p ∙ (sym (same_length name_in_it p) ∙ ap length here))
+      | inl is ↦ subst (λ (x : Placed). IsSized x) is (length_map f p ∙ (sym (length_map name_in_it p) ∙ ap length here))
       | inr more ↦ sized_each m f ts ps rest d more
     ]
 
@@ -116,13 +116,13 @@ module _ (law : PiecesAreDeclarations) (l : Link) (given : Given) (ds : Vec (Spa
 
   many_declared : length p.meant ≡ length (identifiers decls)
   many_declared =
-      sym (same_length texts_of p.meant)
+      sym (length_map texts_of p.meant)
       ∙ (many_meanings (tables (modules_in l)) p.held (map texts_of p.meant) p.means held_sized ∙ sym (many_of decls (forest_of (map (λ (h : Placed). h.declaration) p.held)) p.alike))
 
   pub all_named : HasMeanings ds parts
   all_named =
-      let many : length words ≡ length (identifiers dirs) = same_length free_name texts ∙ (ap length d.words_are ∙ sym (many_of dirs (forest_of d.kept) d.same_shape)) in
-      sym (same_length denotation_view parts.denotations.items)
+      let many : length words ≡ length (identifiers dirs) = length_map free_name texts ∙ (ap length d.words_are ∙ sym (many_of dirs (forest_of d.kept) d.same_shape)) in
+      sym (length_map denotation_view parts.denotations.items)
       ∙ (ap length p.denotations ∙ (length-append words p.meant
       ∙ (ap (λ n. n + length p.meant) many ∙ (ap (λ n. length (identifiers dirs) + n) many_declared
       ∙ (sym (length-append (identifiers dirs) (identifiers decls)) ∙ ap (λ xs. length (identifiers dirs ++ xs)) (sym (append-nil (identifiers decls))))))))

@@ -1,5 +1,5 @@
 -- Turns of a search: what the first of a list have, as the list goes on.
-use Rattle.std.proofs.Common.{◌≡◌, ◌⊎◌, inl, inr, ℕ, zero, suc, ◌<◌, ◌≤◌, ◌+◌, List, [], ◌∷◌, ◌++◌, length, slice_get, Some, arith, subst, sym}
+use Rattle.std.proofs.Common.{◌≡◌, ◌⊎◌, inl, inr, ℕ, zero, suc, ◌<◌, ◌≤◌, ◌+◌, List, [], ◌∷◌, ◌++◌, length, slice_get, Some, arith, subst}
 use Rattle.std.proofs.lemmas.Bool.{cases_lt}
 use Rattle.std.proofs.lemmas.Option.{slice_get_within}
 use Rattle.wesl_link_symbols.specs.declared.ids.PathId.{PathId}
@@ -12,20 +12,18 @@ use Rattle.wesl_link_faults.specs.declared.given.Given.{Given}
 use Rattle.wesl_link_faults.specs.declared.search.Search.{Search}
 use Rattle.wesl_link_faults.specs.Searching.{Grows, IsModuleDone, IsSymbolDone, ModulesDone, SymbolsDone}
 use Rattle.wesl_link_faults.proofs.Searching.{module_on, at_on}
+use Rattle.wesl_link_reach.proofs.Declaring.{place_on}
 
 at_append : {X : Type 0} (xs more : List X) (k : ℕ) (x : X) → slice_get xs k ≡ Some x → slice_get (xs ++ more) k ≡ Some x
 at_append [] more k x e = cc
 at_append (y ∷ xs) more zero x e = e
 at_append (y ∷ xs) more (suc k) x e = at_append xs more k x e
 
-pub on_at : {X : Type 0} (xs ys : List X) (k : ℕ) (x : X) → GoesOn xs ys → slice_get xs k ≡ Some x → slice_get ys k ≡ Some x
-on_at {X} xs ys k x (more, e) at = subst (λ (zs : List X). slice_get zs k ≡ Some x) (sym e) (at_append xs more k x at)
-
 module _ {X : Type 0} (D E : X → Type 0) (xs ys : List X) (on : GoesOn xs ys) (more : (x : X) → D x → E x) where
   pub done_more : (n : ℕ) → n ≤ length xs → ((k : ℕ) (x : X) → k < n → slice_get xs k ≡ Some x → D x) → (k : ℕ) (x : X) → k < n → slice_get ys k ≡ Some x → E x
   done_more n b done k x less at =
       let (y, c, here) = contains_at_place xs k (omega arith) in
-      subst E (one_at ys k y x (on_at xs ys k y on here) at) (more y (done k y less here))
+      subst E (one_at ys k y x (place_on xs ys k y on here) at) (more y (done k y less here))
 
   pub done_next : (n : ℕ) (x0 : X) → slice_get xs n ≡ Some x0 → ((k : ℕ) (x : X) → k < n → slice_get xs k ≡ Some x → D x) → E x0
       → (k : ℕ) (x : X) → k < n + 1 → slice_get ys k ≡ Some x → E x
@@ -35,7 +33,7 @@ module _ {X : Type 0} (D E : X → Type 0) (xs ys : List X) (on : GoesOn xs ys) 
       by (inl less) = let b = slice_get_within xs n x0 there in done_more n (omega arith) done k x less at
       by (inr past) =
           let same : n ≡ k = omega arith in
-          subst E (one_at ys k x0 x (subst (λ (j : ℕ). slice_get ys j ≡ Some x0) same (on_at xs ys n x0 on there)) at) here
+          subst E (one_at ys k x0 x (subst (λ (j : ℕ). slice_get ys j ≡ Some x0) same (place_on xs ys n x0 on there)) at) here
 
 module _ (m : Given) (s z : Search) (g : Grows s z) where
   pub modules_more : (n : ℕ) → n ≤ length s.entered.list.items → ModulesDone m s n → ModulesDone m z n

@@ -16,7 +16,8 @@ use Rattle.wesl_link_laws.proofs.Shaped.{shape, label_of, beside, Outline, not_i
 use Rattle.wesl_link_laws.proofs.Parts.{blocks_of, part_first}
 use Rattle.wesl_link_laws.proofs.Modules.{outside, IsOutside, later_outside}
 use Rattle.wesl_link_laws.proofs.Sources.{Source, own_part, use_in, placed_of, Before}
-use Rattle.wesl_link_laws.proofs.Lists.{same_parts, mapped_length, pairs_length, pairs_left, pairs_right, pairs_both, related_pairs, related_length, joined_so, InOrder}
+use Rattle.wesl_link_laws.proofs.Lists.{same_parts, pairs_length, pairs_left, pairs_right, pairs_both, related_pairs, related_length, joined_so, InOrder}
+use Rattle.wesl_scope_clash.proofs.Canonical.{mapped_length}
 
 -- ---- nodes whose fields stand in the module's block
 pub same_outside : (a a' b b' n : ℕ) (s t : Node Block) → IsOutside s → IsOutside t → SameNode Pathless a a' b b' n false s t

@@ -23,10 +23,6 @@ same_parts {X = X} (x ∷ xs) ys (u ∷ us) vs l e =
     let both = same_parts xs ys us vs (omega (arith, l)) rest in
     (ap₂ (λ (z : X) (zs : List X). z ∷ zs) first both.0, both.1)
 
-pub mapped_length : {X Y : Type 0} (f : X → Y) (xs : List X) → length (map f xs) ≡ length xs
-mapped_length f [] = refl
-mapped_length f (x ∷ xs) = ap suc (mapped_length f xs)
-
 -- ---- pairs
 module _ {X Y : Type 0} (R : X → Y → Type 0) where
   pub pairs_length : (xs : List X) (ys : List Y) → Pairs R xs ys → length xs ≡ length ys

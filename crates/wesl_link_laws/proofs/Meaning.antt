@@ -3,6 +3,7 @@ use Rattle.std.proofs.Common.{◌≡◌, ℕ, zero, suc, ◌<◌, Bool, true, fa
 use Rattle.std.specs.Prelude.{◌==◌, slice_index_or, if◌then◌else◌}
 use Rattle.std.proofs.lemmas.Bool.Decides.{Decides-eqb}
 use Rattle.wesl_tree_syntax.specs.Numbers.{AreNumbers, number_at}
+use Rattle.wesl_scope_clash.proofs.Canonical.{mapped_length}
 
 module _ {K : Type 0} (d : K) where
   -- what the first of that number stands for
@@ -26,10 +27,6 @@ at_place : {X Y : Type 0} (f : X → Y) (xs : List X) (i : ℕ) (y : Y) (x : X) 
 at_place f [] i y x h = absurd (omega (arith, h))
 at_place f (a ∷ xs) zero y x h = refl
 at_place f (a ∷ xs) (suc i) y x h = at_place f xs i y x (omega (arith, h))
-
-mapped_length : {X Y : Type 0} (f : X → Y) (xs : List X) → length (map f xs) ≡ length xs
-mapped_length f [] = refl
-mapped_length f (x ∷ xs) = ap suc (mapped_length f xs)
 
 same_lists : {X : Type 0} (d : X) (xs ys : List X) → length xs ≡ length ys → ((i : ℕ) → i < length xs → slice_index_or xs i d ≡ slice_index_or ys i d) → xs ≡ ys
 same_lists d [] [] l h = refl

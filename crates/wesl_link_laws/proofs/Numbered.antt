@@ -17,7 +17,7 @@ use Rattle.wesl_link_assembly.specs.Denotations.{free_name, printed_as}
 use Rattle.wesl_link_assembly.specs.Pathless.{without_paths}
 use Rattle.wesl_link_laws.proofs.Meaning.{first_meaning, denoted}
 use Rattle.wesl_link_laws.proofs.ReadAs as reading
-use Rattle.wesl_link_laws.proofs.Whole.{names_printed, same_each, mapped_twice}
+use Rattle.wesl_link_laws.proofs.Whole.{names_printed, same_each}
 use Rattle.wesl_link_engine.specs.Worlds.{Module, tables}
 use Rattle.wesl_link_engine.specs.Linked.{Denotation, Placed, AreMeanings, Joins, IsAssembled}
 use Rattle.wesl_link_laws.proofs.Shaped.{shape}
@@ -35,6 +35,7 @@ use Rattle.wesl_link_laws.proofs.Distinct.{names_apart}
 use Rattle.wesl_link_laws.proofs.Spelled.{reads_right}
 use Rattle.wesl_link_laws.proofs.Follow.{StandSo, follow}
 use Rattle.wesl_link_laws.proofs.Meant.{IsLaidOut, InUnit, stand_so}
+use Rattle.wesl_scope_clash.proofs.Canonical.{mapped_twice}
 
 module _ (lead : WaysLeadOutwards) (identified : OccurrencesAreIdentifiers) (w : List Module) (task : Task Path Text) (names : Path → Text → Text) (u : UnitView) (a : IsAssembled w task names u)
     (gs : (m : Module) → Contains w m → IsGrammatical m.unit) (distinct : AreDistinct (map (λ (m : Module). m.path) w)) (entered : (m : Module) → Contains w m → Entered (tables w) task m.path) where

@@ -6,7 +6,7 @@ use Rattle.std.proofs.lemmas.List.Elements.{All-contains, Contains-append_cases,
 use Rattle.wesl_tree_names.specs.Path.{Text, Path}
 use Rattle.wesl_link_reach.specs.World.{Task, Entered}
 use Rattle.wesl_link_symbols.proofs.Lists.{contains_nil, contains_first, contains_later, contains_cases}
-use Rattle.wesl_scope_occurrences.specs.Occurrences.{Block, Standing, module_name, parameter, local as local_name, reference, word, Occurrence, occurrences, is_binder}
+use Rattle.wesl_scope_occurrences.specs.Occurrences.{Block, word, Occurrence, occurrences}
 use Rattle.wesl_scope_meanings.specs.Keys.{named as named_in}
 use Rattle.wesl_scope_meanings.specs.Scopes.{is_visible, binds, binder_of}
 use Rattle.wesl_scope_clash.specs.Faithful.{name_of, first_filled, binders_in, binders_of}
@@ -68,13 +68,6 @@ module _ {X : Type 0} (test : X → Bool) where
 pub none_there : {X : Type 0} (xs : List X) → ((x : X) → Contains xs x → ⊥) → xs ≡ []
 none_there [] h = refl
 none_there (x ∷ xs) h = absurd (h x (contains_first x xs))
-
-pub visible_binds : (p : ℕ) (r : Standing) → is_visible p r ≡ true → is_binder r ≡ true
-visible_binds p module_name h = refl
-visible_binds p parameter h = refl
-visible_binds p (local_name e) h = refl
-visible_binds p (reference x) h = absurd (let z : ⊥ = cc in z)
-visible_binds p word h = absurd (let z : ⊥ = cc in z)
 
 module _ (w : List Module) (task : Task Path Text) (held : List Placed) (srcs : AreSources (tables w) task w held) (gs : (m : Module) → Contains w m → IsGrammatical m.unit) (entered : (m : Module) → Contains w m → Entered (tables w) task m.path)
     (means : ℕ → Denotation) (way : ℕ → Block) (all : List (Occurrence ℕ)) (lay : IsLaidOut (tables w) srcs.sources means way all)

@@ -8,6 +8,7 @@ use Rattle.wesl_scope_occurrences.specs.Occurrences.{Shape, of_type, opens, path
 use Rattle.wesl_link_assembly.specs.Pathless.{without_path, has_words, without_paths}
 use Rattle.wesl_link_laws.proofs.Alike.{is_ident, shape_in, words_in, Alike, none, identifier, a_node, hollow}
 use Rattle.std.proofs.lemmas.Bool.{or_left}
+use Rattle.wesl_scope_clash.proofs.Canonical.{left, right as and_right}
 
 abbrev pub shape : {I : Type 0} → ForestOf I → ForestOf (Unit {0})
 shape = respell_forest (λ i. tt)
@@ -184,14 +185,6 @@ module _ {I : Type 0} where
   path_field (tree (kind absent) c o) h = absent_leaf o c h
   path_field (tree _ c o) h = absurd (let z : ⊥ = cc in z)
 
-and_left : (a b : Bool) → (a && b) ≡ true → a ≡ true
-and_left true b h = refl
-and_left false b h = h
-
-and_right : (a b : Bool) → (a && b) ≡ true → b ≡ true
-and_right true b h = h
-and_right false b h = absurd (let z : ⊥ = cc in z)
-
 -- references on the right have no path
 abbrev pub Pathless : Option Path → Option Path → Type 0
 Pathless p q = q ≡ None
@@ -271,7 +264,7 @@ module _ {I J : Type 0} where
       by inner after end t e = absurd (let z : ⊥ = cc in z)
       by inner after (tree m d h) t e =
           let t1 = and_right (is_typed_at l c) (is_typed c && is_typed o) t in
-          one_alike m c o d h l (seen l) (ap label_of e) (ap children_of e) (and_left (is_typed_at l c) (is_typed c && is_typed o) t) (and_left (is_typed c) (is_typed o) t1) inner.0 inner.1
+          one_alike m c o d h l (seen l) (ap label_of e) (ap children_of e) (left (is_typed_at l c) (is_typed c && is_typed o) t) (left (is_typed c) (is_typed o) t1) inner.0 inner.1
           (after.0 h (and_right (is_typed c) (is_typed o) t1) (ap beside e))
 
   pub alike_without : (f : ForestOf I) (g : ForestOf J) → is_typed f ≡ true → shape g ≡ shape (without_paths f) → Alike Pathless false f g

@@ -28,11 +28,10 @@ use Rattle.wesl_link_laws.proofs.Sources.{Source, own_part, use_in, AreSources}
 use Rattle.wesl_link_laws.proofs.Laid.{LaidAt, Related, has_source}
 use Rattle.wesl_link_laws.proofs.Meant.{IsReference, IsLaidOut, symbol_reached, in_all, each_stands, StandsHere}
 use Rattle.wesl_link_laws.proofs.Corresponding.{bound_so, binds_so}
-use Rattle.wesl_link_laws.proofs.Picking.{filtered, kept_in, none_there, visible_binds, Picks, in_a_function, in_no_function, picks}
+use Rattle.wesl_link_laws.proofs.Picking.{filtered, kept_in, none_there, Picks, in_a_function, in_no_function, picks}
 use mathlib.Core.Bool.{and-false}
-
-not_so : {X : Type 0} (x y : X) → x ≢ y → x ≡ y → ⊥
-not_so x y d e = d e
+use Rattle.wesl_link_laws.proofs.Distinct.{not_so}
+use Rattle.wesl_scope_clash.proofs.Canonical.{visible_binder}
 
 not_global : (o : Occurrence ℕ) (k : ℕ) (outer : Block) → o.block ≡ k ∷ outer → is_global o ≡ false
 not_global o k outer e = ap (λ b. is_binder o.role && bytes_eq b []) e ∙ and-false (is_binder o.role)
@@ -64,7 +63,7 @@ module _ (w : List Module) (task : Task Path Text) (held : List Placed) (srcs : 
       let so = bound_so (k ∷ outer) (name_of names all g) p (named_in names o) f.1 in
       not_so (name_of names all o) (name_of names all g)
       (All-contains (λ b. is_global b ≡ true → name_of names all o ≢ name_of names all b) all g
-      (All-contains (λ v. is_binder v.role ≡ true → is_global v ≡ false → SpellsNoGlobal names all v) all o sp.others_apart.locals f.0 (visible_binds p o.role so.0) (not_global o k outer so.2)) g_in global)
+      (All-contains (λ v. is_binder v.role ≡ true → is_global v ≡ false → SpellsNoGlobal names all v) all o sp.others_apart.locals f.0 (visible_binder p o.role so.0) (not_global o k outer so.2)) g_in global)
       so.1)
 
   in_module_alone : (g : Occurrence ℕ) → Contains all g → is_global g ≡ true → (p : ℕ) (b : Block) → binders_of names all (name_of names all g) p b ≡ binders_in names all (name_of names all g) p []
@@ -86,7 +85,7 @@ module _ (w : List Module) (task : Task Path Text) (held : List Placed) (srcs : 
       let so = bound_so [] (name_of names all g) r.place (named_in names o) f.1 in
       All-contains (λ b. is_global b ≡ true → name_of names all b ≡ name_of names all g → b.name ≡ g.name) all o
       (All-contains (λ a. is_global a ≡ true → All (λ b. is_global b ≡ true → name_of names all b ≡ name_of names all a → b.name ≡ a.name) all) all g sp.globals_apart g_in global)
-      f.0 (global_so o (visible_binds r.place o.role so.0) so.2) so.1
+      f.0 (global_so o (visible_binder r.place o.role so.0) so.2) so.1
       ∙ same_number g r g_in r_in e)))
 
   binder_not_free : (v : Standing) (b : Block) (d : Denotation) (n : Text) → is_binder v ≡ true → StandsHere w task held srcs gs entered means way all lay names print v b d → d ≡ free_name n → ⊥
@@ -126,7 +125,7 @@ module _ (w : List Module) (task : Task Path Text) (held : List Placed) (srcs : 
         let so = bound_so [] n r.place (named_in names o) f.1 in
         not_so (name_of names all r) (name_of names all o)
         (All-contains (λ v. is_global v ≡ true → name_of names all r ≢ name_of names all v) all o
-        (All-contains (λ v. is_unqualified v.role ≡ true → IsUnbound names all v → SpellsNoGlobal names all v) all r sp.others_apart.free_names r_in unqualified unbound) f.0 (global_so o (visible_binds r.place o.role so.0) so.2))
+        (All-contains (λ v. is_unqualified v.role ≡ true → IsUnbound names all v → SpellsNoGlobal names all v) all r sp.others_apart.free_names r_in unqualified unbound) f.0 (global_so o (visible_binder r.place o.role so.0) so.2))
         (spelled ∙ sym so.1)) in
         subst (λ m. AgreeOn names all r.name (binders_of names all m r.place r.block)) (sym spelled) (subst (AgreeOn names all r.name) (sym (alone ∙ empty)) unbound)
 

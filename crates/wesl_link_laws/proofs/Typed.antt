@@ -38,8 +38,10 @@ use Rattle.wesl_tree_syntax.specs.declared.statement.SwitchClause.{SwitchClause,
 use Rattle.wesl_tree_syntax.specs.declared.statement.Statement.TheOpen.{Statement-F, CompoundStatement-F, ContinuingStatement-F, ElseClause-F, ElseIfClause-F, IfClause-F, SwitchClause-F}
 use Rattle.wesl_tree_syntax.specs.declared.statement.Statement.TheFolds.{ind-CompoundStatement, fold-roll-Statement, fold-roll-CompoundStatement, fold-roll-ContinuingStatement, fold-roll-ElseClause, fold-roll-ElseIfClause, fold-roll-IfClause, fold-roll-SwitchClause}
 use Rattle.wesl_link_laws.proofs.Shaped.{is_typed_at}
-use Rattle.wesl_link_laws.proofs.Grammar.{is_name, is_parameter, is_declaration, sober, quiet, plainly, once_named, Parameters, no_parameter, one_parameter, FunctionFields, fields_of, Globals, no_more, a_function, another, not_so}
+use Rattle.wesl_link_laws.proofs.Grammar.{is_name, is_parameter, is_declaration, sober, quiet, plainly, once_named, Parameters, no_parameter, one_parameter, FunctionFields, fields_of, Globals, no_more, a_function, another}
 use Rattle.std.proofs.lemmas.Bool.{or_right}
+use Rattle.wesl_mangle_forms.proofs.Cuts.{not-true}
+use Rattle.wesl_scope_clash.proofs.Canonical.{left, right}
 
 abbrev IsSober : Tree → Type 0
 IsSober t = (((not (is_name t.label) && not (is_parameter t.label)) && is_typed_at t.label t.children) && sober t.children) ≡ true
@@ -50,14 +52,6 @@ quiet_tree d t = (((d || not (is_name t.label)) && not (is_parameter t.label)) &
 abbrev IsQuiet : Tree → Type 0
 IsQuiet t = quiet_tree false t ≡ true
 
-and_left : (a b : Bool) → (a && b) ≡ true → a ≡ true
-and_left true b h = refl
-and_left false b h = h
-
-and_right : (a b : Bool) → (a && b) ≡ true → b ≡ true
-and_right true b h = h
-and_right false b h = absurd (let z : ⊥ = cc in z)
-
 -- where no name is declared, none is but by declarations
 sober_quiet : (d : Bool) (f : Forest) → sober f ≡ true → quiet d f ≡ true
 sober_quiet d end h = refl
@@ -65,14 +59,14 @@ sober_quiet d (tree l c o) h =
     let n = not (is_name l) in
     let k = not (is_parameter l) in
     let t = is_typed_at l c in
-    let h1 = and_left (((n && k) && t) && sober c) (sober o) h in
-    let h2 = and_left ((n && k) && t) (sober c) h1 in
-    let h3 = and_left (n && k) t h2 in
-    let hn = or_right d n (and_left n k h3) in
-    let hk = and_right n k h3 in
-    let ht = and_right (n && k) t h2 in
-    let hc = sober_quiet (is_declaration l) c (and_right ((n && k) && t) (sober c) h1) in
-    let ho = sober_quiet d o (and_right (((n && k) && t) && sober c) (sober o) h) in
+    let h1 = left (((n && k) && t) && sober c) (sober o) h in
+    let h2 = left ((n && k) && t) (sober c) h1 in
+    let h3 = left (n && k) t h2 in
+    let hn = or_right d n (left n k h3) in
+    let hk = right n k h3 in
+    let ht = right (n && k) t h2 in
+    let hc = sober_quiet (is_declaration l) c (right ((n && k) && t) (sober c) h1) in
+    let ho = sober_quiet d o (right (((n && k) && t) && sober c) (sober o) h) in
     rw (hn, hk, ht, hc, ho) refl
 
 sober_tree_quiet : (t : Tree) → IsSober t → IsQuiet t
@@ -80,12 +74,12 @@ sober_tree_quiet s h =
     let n = not (is_name s.label) in
     let k = not (is_parameter s.label) in
     let t = is_typed_at s.label s.children in
-    let h2 = and_left ((n && k) && t) (sober s.children) h in
-    let h3 = and_left (n && k) t h2 in
-    let hn = and_left n k h3 in
-    let hk = and_right n k h3 in
-    let ht = and_right (n && k) t h2 in
-    let hc = sober_quiet (is_declaration s.label) s.children (and_right ((n && k) && t) (sober s.children) h) in
+    let h2 = left ((n && k) && t) (sober s.children) h in
+    let h3 = left (n && k) t h2 in
+    let hn = left n k h3 in
+    let hk = right n k h3 in
+    let ht = right (n && k) t h2 in
+    let hc = sober_quiet (is_declaration s.label) s.children (right ((n && k) && t) (sober s.children) h) in
     rw (hn, hk, ht, hc) refl
 
 -- ---- expressions
@@ -269,7 +263,7 @@ declaration_plainly d = rw (attributes_sober d.attributes.items, kind_plain d.ki
 
 -- the name that a declaration binds is the one name among its fields
 sober_unnamed : (t : Tree) → IsSober t → is_name t.label ≡ false
-sober_unnamed s h = not_so (is_name s.label) (and_left (not (is_name s.label)) (not (is_parameter s.label)) (and_left (not (is_name s.label) && not (is_parameter s.label)) (is_typed_at s.label s.children) (and_left ((not (is_name s.label) && not (is_parameter s.label)) && is_typed_at s.label s.children) (sober s.children) h)))
+sober_unnamed s h = not-true (is_name s.label) (left (not (is_name s.label)) (not (is_parameter s.label)) (left (not (is_name s.label) && not (is_parameter s.label)) (is_typed_at s.label s.children) (left ((not (is_name s.label) && not (is_parameter s.label)) && is_typed_at s.label s.children) (sober s.children) h)))
 
 kind_unnamed : (k : DeclarationKind) → is_name (kind_tree k).label ≡ false
 kind_unnamed kinds.Const = refl
@@ -292,8 +286,8 @@ sober_plain : (t : Tree) → IsSober t → plain_tree t ≡ true
 sober_plain s h =
     let n = not (is_name s.label) && not (is_parameter s.label) in
     let t = is_typed_at s.label s.children in
-    let ht = and_right n t (and_left (n && t) (sober s.children) h) in
-    let hc = and_right (n && t) (sober s.children) h in
+    let ht = right n t (left (n && t) (sober s.children) h) in
+    let hc = right (n && t) (sober s.children) h in
     rw (ht, hc) refl
 
 assert_quiet : (c : ConstAssert) → IsQuiet (assert_view c)

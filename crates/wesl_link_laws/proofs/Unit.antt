@@ -16,7 +16,8 @@ use Rattle.wesl_link_laws.proofs.Parts.{as_many, count_is}
 use Rattle.wesl_link_laws.proofs.Wordy.{Directives}
 use Rattle.wesl_link_laws.proofs.Modules.{module_node, IsModule, in_parts, imports_part, directives_part, globals_part, directives_place, directives_number}
 use Rattle.wesl_link_laws.proofs.Directed.{directives_typed, all_words}
-use Rattle.wesl_link_laws.proofs.Lists.{same_parts, mapped_length}
+use Rattle.wesl_link_laws.proofs.Lists.{same_parts}
+use Rattle.wesl_scope_clash.proofs.Canonical.{mapped_length}
 
 shape_again : {I J : Type 0} (g : I → J) (f : ForestOf I) → shape (respell_forest g f) ≡ shape f
 shape_again g f = sym (replaced_twice g (λ x. tt) (λ y. tt) (λ x. refl) f)

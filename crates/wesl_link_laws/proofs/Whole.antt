@@ -1,5 +1,5 @@
 -- A linked unit is faithful exactly where it reads as it is meant.
-use Rattle.std.proofs.Common.{◌≡◌, ℕ, List, [], ◌∷◌, map, refl, sym, ap, ◌∙◌, subst, arith, zero, suc}
+use Rattle.std.proofs.Common.{◌≡◌, ℕ, List, [], ◌∷◌, map, sym, ap, ◌∙◌, subst, arith, zero, suc}
 use Rattle.std.specs.List.{All}
 use Rattle.wesl_tree_names.specs.Path.{Text, Path}
 use Rattle.wesl_tree_syntax.specs.Tree.{identifiers}
@@ -13,6 +13,7 @@ use Rattle.wesl_link_assembly.proofs.Replaced.{identifiers_replaced}
 use Rattle.wesl_link_laws.specs.ReadAsMeant.{FaithfulReadsAsMeant}
 use Rattle.wesl_link_laws.proofs.Meaning.{first_meaning, denoted}
 use Rattle.wesl_link_laws.proofs.ReadAs.{reads_as_meant, reads_right}
+use Rattle.wesl_scope_clash.proofs.Canonical.{mapped_twice}
 
 same_first : {X Y : Type 0} (f g : X → Y) (x : X) (xs : List X) → map f (x ∷ xs) ≡ map g (x ∷ xs) → f x ≡ g x
 same_first f g x xs e = cc
@@ -25,10 +26,6 @@ same_each f g (x ∷ xs) e (suc i) d h = same_each f g xs (ap (λ ys. rest_of ys
     rest_of : {Y : Type 0} → List Y → List Y
     rest_of [] = []
     rest_of (y ∷ ys) = ys
-
-pub mapped_twice : {X Y Z : Type 0} (f : X → Y) (g : Y → Z) (xs : List X) → map g (map f xs) ≡ map (λ x. g (f x)) xs
-mapped_twice f g [] = refl
-mapped_twice f g (x ∷ xs) = ap (λ ys. g (f x) ∷ ys) (mapped_twice f g xs)
 
 abbrev Denotation : Type 0
 Denotation = DenotationOf Path Text ℕ

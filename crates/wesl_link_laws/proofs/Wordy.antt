@@ -1,10 +1,11 @@
 -- The identifiers of directives are words.
-use Rattle.std.proofs.Common.{◌≡◌, ℕ, suc, ◌+◌, Bool, true, false, not, ◌&&◌, List, [], ◌∷◌, Option, Some, None, refl, sym, subst}
+use Rattle.std.proofs.Common.{◌≡◌, ℕ, suc, ◌+◌, true, false, not, ◌&&◌, List, [], ◌∷◌, Option, Some, None, refl, sym, subst}
 use Rattle.wesl_tree_syntax.specs.Tree.{Kind, LabelOf, ForestOf, end, tree, kind, at, binder, reference as reference_role, word as word_role, directive_node}
 use Rattle.wesl_scope_occurrences.specs.Occurrences.{word, Block, Occurrence, Shape, of_function, of_parameter, of_body, of_holder, of_loop, of_continuing, of_for, of_words, of_custom, of_type, of_value, of_globals, of_other, shape_of, opens, Surroundings, Node, referring, node_by, first_or, others_of, numbered, here_in, after_field, count, blocks_in, blocks_at, occurrences_from}
 use Rattle.wesl_link_laws.proofs.Alike.{is_ident, shape_in, occurrences_unfold}
 use Rattle.wesl_link_laws.proofs.Shaped.{is_typed_at, Seen, an_ident, no_ident, seen}
 use Rattle.wesl_link_laws.proofs.Grammar.{is_name, is_parameter, sober, Every, every_append}
+use Rattle.wesl_scope_clash.proofs.Canonical.{left, right}
 
 abbrev InWords : Surroundings Block → Type 0
 InWords s = s.words ≡ true
@@ -30,14 +31,6 @@ words_here node h = words_numbered node.next_declaration (first_or node.others n
 
 words_after : (node : Node Block) → WordsNode node → WordsNode (after_field node)
 words_after node h = record { ahead = words_later node.ahead h.ahead; others = h.others }
-
-and_left : (a b : Bool) → (a && b) ≡ true → a ≡ true
-and_left true b h = refl
-and_left false b h = h
-
-and_right : (a b : Bool) → (a && b) ≡ true → b ≡ true
-and_right true b h = h
-and_right false b h = absurd (let z : ⊥ = cc in z)
 
 module _ {I : Type 0} where
   words_node : (sh : Shape) (c : ForestOf I) (q : ℕ) (s : Surroundings Block) → InWords s → WordsNode (node_by sh c (blocks_at q s.block) s)
@@ -82,8 +75,8 @@ module _ {I : Type 0} where
       let n = not (is_name l) in
       let k = not (is_parameter l) in
       let t = is_typed_at l c in
-      let h1 = and_left (((n && k) && t) && sober c) (sober o) h in
-      one_words l (seen l) c o (and_left n k (and_left (n && k) t (and_left ((n && k) && t) (sober c) h1))) (sober_words c (and_right ((n && k) && t) (sober c) h1)) (sober_words o (and_right (((n && k) && t) && sober c) (sober o) h))
+      let h1 = left (((n && k) && t) && sober c) (sober o) h in
+      one_words l (seen l) c o (left n k (left (n && k) t (left ((n && k) && t) (sober c) h1))) (sober_words c (right ((n && k) && t) (sober c) h1)) (sober_words o (right (((n && k) && t) && sober c) (sober o) h))
 
   -- directives
   pub data Directives : ForestOf I → Type 0 where

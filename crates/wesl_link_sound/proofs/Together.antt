@@ -1,14 +1,14 @@
 -- Whether choices of flags keep the same places together is decided.
-use Rattle.std.proofs.Common.{◌≡◌, ◌⊎◌, inl, inr, ℕ, Bool, true, false, ◌&&◌, ◌||◌, true≢false, List, [], ◌∷◌, ◌++◌, Contains, subst, sym, refl, ap}
+use Rattle.std.proofs.Common.{◌≡◌, ◌⊎◌, inl, inr, Bool, true, false, ◌&&◌, ◌||◌, true≢false, List, [], ◌∷◌, ◌++◌, Contains, subst, sym, refl}
 use Rattle.std.specs.List.{list_any}
-use Rattle.std.proofs.lemmas.Bool.Decides.{Decides-eqb}
 use Rattle.std.proofs.lemmas.List.Elements.{Contains-append_left, Contains-append_right}
 use Rattle.wesl_cond_choices.specs.declared.place.Place.{Place}
-use Rattle.wesl_cond_choices.specs.declared.place.Place.TheVariants.{Always, Import, Declaration, Name}
+use Rattle.wesl_cond_choices.specs.declared.place.Place.TheVariants.{Always}
 use Rattle.wesl_cond_choices.specs.Places.{is_always, same_place, keeps, together}
 use Rattle.wesl_link_symbols.proofs.Lists.{contains_nil, contains_first, contains_later, contains_cases}
 use Rattle.wesl_link_sound.proofs.Decidable.{IsDecidable, decided_by, all_of, same_bool}
 use Rattle.std.proofs.lemmas.Bool.{and_parts}
+use Rattle.wesl_link_split.proofs.Targets.{any_there, place_is}
 
 or_cases : (x y : Bool) → (x || y) ≡ true → (x ≡ true) ⊎ (y ≡ true)
 or_cases true y e = inl refl
@@ -18,20 +18,6 @@ agree : (x y : Bool) → (x ≡ true → x ≡ y) → (y ≡ true → x ≡ y) �
 agree true y f g = f refl
 agree false true f g = g refl
 agree false false f g = refl
-
-some_passes : {X : Type 0} (p : X → Bool) (xs : List X) → list_any p xs ≡ true → (x : X) × Contains xs x × (p x ≡ true)
-some_passes p [] e = absurd (true≢false (sym e))
-some_passes p (x ∷ xs) e = elim (or_cases (p x) (list_any p xs) e) [
-  | inl h ↦ (x, contains_first x xs, h)
-  | inr h ↦ (let (y, c, k) = some_passes p xs h in (y, contains_later x y xs c, k))
-]
-
-places_equal : (p q : Place) → same_place p q ≡ true → p ≡ q
-places_equal Always Always e = refl
-places_equal (Import j) (Import k) e = ap (λ (x : ℕ). Import x) ((Decides-eqb j k).0 e)
-places_equal (Declaration j) (Declaration k) e = ap (λ (x : ℕ). Declaration x) ((Decides-eqb j k).0 e)
-places_equal (Name j) (Name k) e = ap (λ (x : ℕ). Name x) ((Decides-eqb j k).0 e)
-places_equal _ _ e = absurd (true≢false (sym e))
 
 always_is : (p : Place) → is_always p ≡ true → Always ≡ p
 always_is Always e = refl
@@ -44,7 +30,7 @@ places (kept ∷ alive) = kept ++ places alive
 keeps_in : (kept : List Place) (p : Place) → keeps kept p ≡ true → (Always ≡ p) ⊎ Contains kept p
 keeps_in kept p e = elim (or_cases (is_always p) (list_any (λ q. same_place q p) kept) e) [
   | inl h ↦ inl (always_is p h)
-  | inr h ↦ (let (q, c, k) = some_passes (λ q. same_place q p) kept h in inr (subst (λ (x : Place). Contains kept x) (places_equal q p k) c))
+  | inr h ↦ (let (q, c, k) = any_there (λ q. same_place q p) kept h in inr (subst (λ (x : Place). Contains kept x) (place_is q p k) c))
 ]
 
 -- what some choice keeps beside another
@@ -63,7 +49,7 @@ some_keeps alive p (kept, c, e) = elim (keeps_in kept p e) [
 
 together_in : (alive : List (List Place)) (a b : Place) → together alive a b ≡ true → Contains (Always ∷ places alive) a × Contains (Always ∷ places alive) b
 together_in alive a b e =
-    let (kept, c, k) = some_passes (λ kept. keeps kept a && keeps kept b) alive e in
+    let (kept, c, k) = any_there (λ kept. keeps kept a && keeps kept b) alive e in
     let (f, g) = and_parts (keeps kept a) (keeps kept b) k in
     (some_keeps alive a (kept, c, f), some_keeps alive b (kept, c, g))
 

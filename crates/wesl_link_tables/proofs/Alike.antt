@@ -20,22 +20,18 @@ use Rattle.wesl_link_tables.specs.Reading.{IsPackage}
 use Rattle.wesl_link_tables.specs.Split.{declares_as, declared_from, binders_by, alive_if}
 use Rattle.wesl_link_tables.specs.Uses.{texts}
 use Rattle.wesl_link_tables.proofs.Lists.{related_append}
+use Rattle.wesl_link_split.proofs.Grouping.{get_below}
 
 -- ---- numbers that are known
 
-getting : {X : Type 0} (xs : List X) (i : ℕ) (x d : X) → slice_get xs i ≡ Some x → get_or xs i d ≡ x
+pub getting : {X : Type 0} (xs : List X) (i : ℕ) (x d : X) → slice_get xs i ≡ Some x → get_or xs i d ≡ x
 getting [] i x d h = absurd (let z : ⊥ = cc in z)
 getting (y ∷ xs) zero x d h = cc
 getting (y ∷ xs) (suc i) x d h = getting xs i x d h
 
-inside : {X : Type 0} (xs : List X) (i : ℕ) (x : X) → slice_get xs i ≡ Some x → i < length xs
-inside [] i x h = absurd (let z : ⊥ = cc in z)
-inside (y ∷ xs) zero x h = omega arith
-inside (y ∷ xs) (suc i) x h = let b : i < length xs = inside xs i x h in omega (arith, b)
-
 module _ (nb : Numbering) where
   known_one : (b : Binder PathId NameId) (c : Binder Path Text) → SameBinder (PathAt nb) (NameAt nb) b c → IsKnown nb b
-  known_one b c h = record { path = inside nb.paths b.path.0 c.path h.path; item = inside nb.names b.item.0 c.item h.item }
+  known_one b c h = record { path = get_below nb.paths b.path.0 c.path h.path; item = get_below nb.names b.item.0 c.item h.item }
 
   pub known_all : (bs : List (Binder PathId NameId)) (cs : List (Binder Path Text)) → AreNumberedBinders nb bs cs → All (IsKnown nb) bs
   known_all [] cs h k d b = absurd (omega (arith, b))

@@ -1,6 +1,5 @@
 -- The modules that names aim at are not relative where the module that names them is not.
 use Rattle.std.proofs.Common.{◌≡◌, zero, suc, false, List, [], ◌∷◌, map, take, All, get_or, arith, refl, sym, subst}
-use Rattle.std.specs.Prelude.{Result, Ok, Err, IfOk}
 use Rattle.wesl_tree_names.specs.Path.{Text, Origin, absolute, relative, from_package, Path, path_view, is_relative, origin_is_relative, join, join_origin, root_path}
 use Rattle.wesl_tree_names.specs.declared.path.ModulePath.{ModulePath}
 use Rattle.wesl_link_symbols.specs.declared.ids.PathId.{PathId}
@@ -9,10 +8,6 @@ use Rattle.wesl_link_split.specs.declared.binders.Binder.{Binder}
 use Rattle.wesl_link_tables.specs.Aims.{IsKnown, spelled_binder}
 use Rattle.wesl_link_tables.specs.Numbering.{Numbering}
 use Rattle.wesl_link_tables.specs.Uses.{module_in_place, or_itself, aims}
-
-pub if_ok : {X E : Type 0} {P Q : X → Type 0} (r : Result X E) → ((x : X) → P x → Q x) → IfOk r P → IfOk r Q
-if_ok (Ok x) f h = f x h
-if_ok (Err e) f h = tt
 
 pub all_unmap : {X Y : Type 0} (f : X → Y) (P : Y → Type 0) (xs : List X) → All P (map f xs) → All (λ x. P (f x)) xs
 all_unmap f P [] h k d b = absurd (omega arith)

@@ -11,13 +11,9 @@ use Rattle.wesl_link_tables.specs.Numbering.{IsLonger, path_in}
 use Rattle.wesl_link_tables.specs.Walks.{HavePaths, import_view}
 use Rattle.wesl_link_tables.specs.declared.imports.Base.{Base}
 use Rattle.wesl_link_tables.specs.declared.imports.Base.TheVariants.{Unset, Nowhere, At}
+use Rattle.wesl_scope_meanings.proofs.Spelling.{get_before}
 
 -- what stands at a place
-pub held_or : {X : Type 0} (xs : List X) (i : ℕ) (x d : X) → slice_get xs i ≡ Some x → get_or xs i d ≡ x
-held_or [] i x d h = absurd (cc)
-held_or (y ∷ xs) zero x d h = cc
-held_or (y ∷ xs) (suc i) x d h = held_or xs i x d h
-
 pub below_held : {X : Type 0} (xs : List X) (i : ℕ) (d : X) → i < length xs → slice_get xs i ≡ Some (get_or xs i d)
 below_held [] i d b = absurd (omega (arith, b))
 below_held (y ∷ xs) zero d b = refl
@@ -35,11 +31,6 @@ nothing_behind ps p [] b e =
     below_held ps p.0 root_path b ∙ ap Some none
 nothing_behind ps p (n ∷ names) b e = absurd (cc)
 
-or_longer : {X : Type 0} (xs more : List X) (i : ℕ) (d : X) → i < length xs → get_or (xs ++ more) i d ≡ get_or xs i d
-or_longer [] more i d b = absurd (omega (arith, b))
-or_longer (y ∷ xs) more zero d b = refl
-or_longer (y ∷ xs) more (suc i) d b = or_longer xs more i d (omega (arith, b))
-
 below_longer : {X : Type 0} (xs more : List X) (i : ℕ) → i < length xs → i < length (xs ++ more)
 below_longer [] more i b = absurd (omega (arith, b))
 below_longer (y ∷ xs) more zero b = omega arith
@@ -50,7 +41,7 @@ module _ (ps qs : List Path) (longer : IsLonger ps qs) where
   below_later i b = let (more, e) = longer in subst (λ (l : List Path). i < length l) (sym e) (below_longer ps more i b)
 
   pub path_same : (p : PathId) → p.0 < length ps → path_in qs p ≡ path_in ps p
-  path_same p b = let (more, e) = longer in ap (λ (l : List Path). path_in l p) e ∙ or_longer ps more p.0 _ b
+  path_same p b = let (more, e) = longer in ap (λ (l : List Path). path_in l p) e ∙ get_before ps more p.0 _ b
 
   pub base_later : (b : Base) → IsKnownBase ps b → IsKnownBase qs b
   base_later Unset h = tt

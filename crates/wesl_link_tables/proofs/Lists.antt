@@ -1,5 +1,5 @@
 -- Lists that grow by one element at a time.
-use Rattle.std.proofs.Common.{◌≡◌, ℕ, zero, suc, ◌≤◌, ◌<◌, ◌+◌, Some, List, [], ◌∷◌, ◌++◌, map, length, take, get_or, arith, refl, sym, ap, ◌∙◌, append_assoc, append-nil}
+use Rattle.std.proofs.Common.{◌≡◌, ℕ, zero, suc, ◌<◌, ◌+◌, Some, List, [], ◌∷◌, ◌++◌, map, length, take, get_or, arith, refl, sym, ap, ◌∙◌, append_assoc, append-nil}
 use Rattle.std.specs.Prelude.{slice_get}
 use Rattle.wesl_link_tables.specs.Numbering.{IsLonger, AreRelated}
 
@@ -22,12 +22,6 @@ pub take_next : {X : Type 0} (xs : List X) (i : ℕ) (x : X) → i < length xs �
 take_next [] i x b e = absurd (omega arith)
 take_next (y ∷ xs) zero x b e = let f : x ≡ y = e in rw f refl
 take_next (y ∷ xs) (suc i) x b e = let n : suc i + 1 ≡ suc (i + 1) = omega arith in rw n (ap (λ l. y ∷ l) (take_next xs i x (omega arith) e))
-
-pub taken_all : {X : Type 0} (xs : List X) (n : ℕ) → length xs ≤ n → take n xs ≡ xs
-taken_all [] zero b = refl
-taken_all [] (suc n) b = refl
-taken_all (x ∷ xs) zero b = absurd (omega arith)
-taken_all (x ∷ xs) (suc n) b = ap (λ l. x ∷ l) (taken_all xs n (omega arith))
 
 module _ {X Y : Type 0} (R S : X → Y → Type 0) (more : (x : X) (y : Y) → R x y → S x y) where
   pub related_more : (xs : List X) (ys : List Y) → AreRelated R xs ys → AreRelated S xs ys

@@ -68,7 +68,3 @@ module _ {X Y : Type 0} (R : X → Y → Type 0) where
   related_at (z ∷ xs) (y ∷ ys) zero x d h l e = subst (λ v. R v y) (sym e) h.0
 
 -- what stands at a place is there whatever would stand for it elsewhere
-pub same_at : {X : Type 0} (xs : List X) (i : ℕ) (d : X) → i < length xs → get_or xs i d ≡ get_or xs i (get_or xs i d)
-same_at [] i d h = absurd (omega (arith, h))
-same_at (x ∷ xs) zero d h = refl
-same_at (x ∷ xs) (suc i) d h = same_at xs i d (omega (arith, h))

@@ -12,6 +12,7 @@ use Rattle.wesl_link_tables.specs.Tables.{uses}
 use Rattle.wesl_link_tables.specs.Uses.{use_of}
 use Rattle.wesl_link_tables.specs.declared.reading.Reading.{Reading}
 use Rattle.wesl_link_tables.proofs.Declared.{identifiers_respelled, trees_respelled}
+use Rattle.wesl_link_split.proofs.Lists.{take_one}
 
 -- ---- lists
 
@@ -23,11 +24,6 @@ pub drop_twice : {X : Type 0} (m n : ℕ) (xs : List X) → drop n (drop m xs) �
 drop_twice zero n xs = let e : zero + n ≡ n = omega arith in rw e refl
 drop_twice (suc m) n [] = drop_none n ∙ sym (drop_none (suc m + n))
 drop_twice (suc m) n (x ∷ xs) = let e : suc m + n ≡ suc (m + n) = omega arith in rw e (drop_twice m n xs)
-
-pub take_one : {X : Type 0} (xs : List X) (i : ℕ) (d : X) → i < length xs → take (i + 1) xs ≡ take i xs ++ get_or xs i d ∷ []
-take_one [] i d h = absurd (omega (arith, h))
-take_one (x ∷ xs) zero d h = refl
-take_one (x ∷ xs) (suc i) d h = let n : suc i + 1 ≡ suc (i + 1) = omega arith in rw n (ap (λ l. x ∷ l) (take_one xs i d (omega (arith, h))))
 
 taken_length : {X : Type 0} (i : ℕ) (xs : List X) → i ≤ length xs → length (take i xs) ≡ i
 taken_length zero xs h = refl

@@ -28,12 +28,13 @@ use Rattle.wesl_link_tables.specs.declared.marks.Mark.{Mark}
 use Rattle.wesl_link_tables.specs.declared.reading.Reading.{Reading}
 use Rattle.wesl_link_tables.proofs.Added.{mark_later}
 use Rattle.wesl_link_tables.proofs.Alike.{place_alike}
-use Rattle.wesl_link_tables.proofs.Holding.{get_itself}
 use Rattle.wesl_link_tables.proofs.Lists.{get_mapped, related_more, related_append}
 use Rattle.wesl_link_tables.proofs.Naming.{related_length, related_at}
-use Rattle.wesl_link_tables.proofs.Pieced.{first_in, take_one, cut_length, starts_length, piece_at, piece_inside, starts_spelled, uses_cut}
+use Rattle.wesl_link_tables.proofs.Pieced.{first_in, cut_length, starts_length, piece_at, piece_inside, starts_spelled, uses_cut}
 use Rattle.wesl_link_tables.proofs.Related.{declarations_more, name_option_later}
 use Rattle.wesl_link_tables.proofs.Seen.{declarations_at, declarations_length, uses_length}
+use Rattle.wesl_link_split.proofs.Lists.{take_one}
+use Rattle.wesl_link_split.proofs.Orders.{itself}
 
 -- marks stay right as names and paths are added
 pub marks_more : (a b : Numbering) → Grows a b → (ms vs : List (Vec Mark)) (us ws : List (List (Use Path Text))) → AreMarked a ms us → AreMarked b vs ws → AreMarked b (ms ++ vs) (us ++ ws)
@@ -122,7 +123,7 @@ module _ (r : Reading) (read : IsRead r) where
           let same : SameDeclaration (PathAt b) (NameAt b) by_number e = record { name = same_name; place = place_alike b (scope_view r.scope.now) s alike name (name_of t) same_name (places.Declaration k); references = same_refs; unclear = same_doubts } in
           let number : 0 + k ≡ k = omega arith in
           let at_k : get_or made k e ≡ e =
-          declarations_at s 0 nodes pieces_used k t us e bound (omega (arith, bound, pieces_length r)) (get_itself nodes k any_tree bound) (get_itself pieces_used k [] (omega (arith, bound, pieces_length r)))
+          declarations_at s 0 nodes pieces_used k t us e bound (omega (arith, bound, pieces_length r)) (itself nodes k any_tree bound) (itself pieces_used k [] (omega (arith, bound, pieces_length r)))
           ∙ ap (λ j. declaration_of s j t us) number in
           let more : take (k + 1) made ≡ take k made ++ e ∷ [] = take_one made k e (omega (arith, bound, made_length r)) ∙ ap (λ x. take k made ++ x ∷ []) at_k in
           subst (λ es. AreNumberedDeclarations b (ds ++ d ∷ []) es) (sym more)

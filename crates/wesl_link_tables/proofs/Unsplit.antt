@@ -1,5 +1,5 @@
 -- The imports of a module in which each name has one target.
-use Rattle.std.proofs.Common.{◌≡◌, Bool, true, false, ◌||◌, List, [], ◌∷◌, refl, ap, ◌∙◌}
+use Rattle.std.proofs.Common.{◌≡◌, Bool, true, false, List, [], ◌∷◌, refl, ap, ◌∙◌}
 use Rattle.std.specs.Prelude.{◌&&◌, ◌==◌, if◌then◌else◌}
 use Rattle.std.specs.List.{list_any}
 use Rattle.wesl_cond_choices.specs.declared.place.Place.TheVariants.{Always}
@@ -12,14 +12,7 @@ use Rattle.wesl_link_split.specs.Split.{Scope}
 use Rattle.wesl_link_split.specs.declared.binders.Binder.{Binder}
 use Rattle.wesl_link_split.proofs.Grouping.{id_is}
 use mathlib.Core.Bool.{and-false}
-
-or_left : (a b : Bool) → (a || b) ≡ false → a ≡ false
-or_left false b e = refl
-or_left true b e = absurd (let z : ⊥ = cc in z)
-
-or_right : (a b : Bool) → (a || b) ≡ false → b ≡ false
-or_right false b e = e
-or_right true b e = absurd (let z : ⊥ = cc in z)
+use Rattle.wesl_cond_alive.proofs.Once.{or_left, or_right}
 
 -- there is a binder of the name, or there is none
 named : (n : NameId) (bs : List (Binder PathId NameId)) (p : NameId → Bool) → list_any (λ b. p b.bound) bs ≡ false → (split.of_name ids n bs ≡ [] → p n ≡ false) → p n ≡ false

@@ -69,10 +69,6 @@ pub written_path : (o : Option ModulePath) → imports.first_label None imports.
 written_path None = refl
 written_path (Some p) = refl
 
-pub on_ok : {X E : Type 0} {P Q : Type 0} (r : Result X E) → (P → Q) → OnOk r P → OnOk r Q
-on_ok (Ok x) f h = f h
-on_ok (Err e) f h = tt
-
 pub if_on : {X E : Type 0} {P : X → Type 0} {Q : Type 0} {R : X → Type 0} (r : Result X E) → ((x : X) → P x → Q → R x) → IfOk r P → OnOk r Q → IfOk r R
 if_on (Ok x) f g h = f x g h
 if_on (Err e) f g h = tt

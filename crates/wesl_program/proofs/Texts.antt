@@ -1,6 +1,6 @@
 -- Lists of texts, item by item.
 use Rattle.std.proofs.Common.{◌≡◌, ℕ, ◌+◌, ◌<◌, List, [], ◌∷◌, ◌++◌, map, take, get_or, length, false, Option, Some, None, refl, sym, ap, ◌∙◌, Bor}
-use Rattle.std.proofs.lemmas.List.{take_more, map-append}
+use Rattle.std.proofs.lemmas.List.{map-append}
 use Rattle.serde_json.specs.Data.{string, item}
 use Rattle.serde_json.specs.Written.{has_float, items_have_float, members_have_float}
 use Rattle.serde_json.specs.View.{view, items_view}
@@ -9,9 +9,7 @@ use Rattle.wesl_tree_names.specs.Path.{Text}
 use Rattle.wesl_program.specs.Fault.{Fault}
 use Rattle.wesl_program.specs.Line.{fault_members, texts_value, told_value, with_home, with_span}
 use Rattle.wesl_program.specs.Places.{Where}
-
-longer : {X : Type 0} (vs : List X) (i : ℕ) (v : X) → i < length vs → v ≡ get_or vs i v → take (i + 1) vs ≡ take i vs ++ v ∷ []
-longer vs i v low e = take_more vs i v low ∙ ap (λ x. take i vs ++ x ∷ []) (sym e)
+use Rattle.wesl_program_bundle.proofs.Readings.{longer}
 
 pub texts-append : (vs : List Value) (v : Value) (ss : List Text) (s : Text) → items_view vs ≡ texts_value ss → view v ≡ string s → items_view (vs ++ v ∷ []) ≡ texts_value (ss ++ s ∷ [])
 texts-append [] v [] s before here = rw here

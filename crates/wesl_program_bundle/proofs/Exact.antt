@@ -5,7 +5,7 @@ use Rattle.std.specs.Cmp.Lexicographic.{slice_cmp}
 use Rattle.std.specs.Ordering.{match_ordering}
 use Rattle.serde_json.specs.Data.{Data, null, boolean, number, string, array, object, Items, no_items, item, Members, no_members, member}
 use Rattle.serde_json.specs.Find.{as_array, as_bool, as_object, as_str, at, get, get_item, get_member}
-use Rattle.serde_json.specs.Written.{has_float, items_have_float, members_have_float}
+use Rattle.serde_json.specs.Written.{has_float, members_have_float}
 use Rattle.wesl_tree_names.specs.Path.{Path, Text}
 use Rattle.wesl_program_bundle.specs.Bundle as spec
 use Rattle.wesl_cond_features.specs.declared.features.Feature.{Feature}
@@ -24,6 +24,7 @@ use Rattle.wesl_program_bundle.specs.declared.options.Naming.TheVariants as nami
 use Rattle.wesl_program_bundle.proofs.Flags.{object-get}
 use Rattle.wesl_program_bundle.proofs.Listed.{below-dependencies, below-modules, made-package, made-package-module, modules-listed, packages-listed}
 use mathlib.Core.Bool.{or-true}
+use Rattle.wesl_json_form.proofs.Broken.{items-float}
 
 -- ---- options that are all there
 
@@ -358,11 +359,6 @@ float-member k e no_members has here = absurd has
 float-member k e (member l d ms) (inl same) here = ap (λ x. has_float x || members_have_float ms) (sym same.1) ∙ ap (λ b. b || members_have_float ms) here
 float-member k e (member l d ms) (inr has) here = ap (λ b. has_float d || b) (float-member k e ms has here) ∙ or-true (has_float d)
 
-float-item : (i : ℕ) (e : Data) (ds : Items) → get_item i ds ≡ Some e → has_float e ≡ true → items_have_float ds ≡ true
-float-item i e no_items found here = cc
-float-item zero e (item d ds) found here = let same : d ≡ e = cc in ap (λ x. has_float x || items_have_float ds) same ∙ ap (λ b. b || items_have_float ds) here
-float-item (suc i) e (item d ds) found here = ap (λ b. has_float d || b) (float-item i e ds found here) ∙ or-true (has_float d)
-
 pub float-there : (path : List Part) (d : Data) → IsFloatAt path d → has_float d ≡ true
 float-there [] null h = cc
 float-there [] (boolean b) h = cc
@@ -386,7 +382,7 @@ float-there (index i ∷ path) d h = in_array d h.1 (float-there path h.0 h.2)
     in_array (boolean b) found here = cc
     in_array (number n) found here = cc
     in_array (string s) found here = cc
-    in_array (array ds) {e} found here = float-item i e ds found here
+    in_array (array ds) {e} found here = items-float i e ds found here
     in_array (object ms) found here = cc
 
 -- what breaks the form of a bundle is none

@@ -1,9 +1,5 @@
 -- An element of a list that equals another is an element of that one.
 use Rattle.std.proofs.Common.{◌≡◌, ◌<◌, ℕ, List, length, slice_index_or, Contains, sym, subst}
-use Rattle.std.proofs.lemmas.List.Elements.{Contains-get_or}
-
-pub element_of : {X : Type 0} (xs ys : List X) (k : ℕ) (d : X) → xs ≡ ys → k < length xs → Contains ys (slice_index_or xs k d)
-element_of {X} xs ys k d e b = subst (λ (zs : List X). Contains zs (slice_index_or xs k d)) e (Contains-get_or xs k d b)
 
 -- the same where the element has a name of its own
 pub element_is : {X : Type 0} (xs ys : List X) (k : ℕ) (x : X) → xs ≡ ys → k < length xs → x ≡ slice_index_or xs k x → Contains ys x

@@ -1,5 +1,5 @@
 -- What is kept: the least set, and one module.
-use Rattle.std.proofs.Common.{◌≡◌, ℕ, ◌<◌, Bool, true, false, List, [], length, refl, sym, ap, ◌∙◌, subst}
+use Rattle.std.proofs.Common.{◌≡◌, ℕ, ◌<◌, Bool, true, false, List, [], length, sym, ap, ◌∙◌, subst}
 use Rattle.std.specs.List.{Contains}
 use Rattle.std.proofs.lemmas.List.{ext_get_or}
 use Rattle.wesl_tree_names.specs.Path.{Text}
@@ -7,18 +7,14 @@ use Rattle.wesl_tree_syntax.specs.Unit.{UnitView, name_in}
 use Rattle.wesl_scope_strip.specs.Declarations.{count, declared_in, referred_in, IsKept, named, nameless, reached}
 use Rattle.wesl_scope.specs.Strip.{IsStripped, marked}
 use Rattle.wesl_scope_strip.specs.Marks.{mark_at}
-
-same_answer : (x y : Bool) → (x ≡ true → y ≡ true) → (y ≡ true → x ≡ true) → x ≡ y
-same_answer true y f g = sym (f refl)
-same_answer false true f g = g refl
-same_answer false false f g = refl
+use Rattle.wesl_scope_clash.proofs.Verdict.{same_truth}
 
 pub one_way : (keep : List Text) (old a b : UnitView) → IsStripped keep old a → IsStripped keep old b → a.declarations ≡ b.declarations
 one_way keep old a b s t =
     let lengths : length s.marks ≡ length t.marks = s.one_each ∙ sym t.one_each in
     let marks : s.marks ≡ t.marks = ext_get_or false s.marks t.marks lengths
     (λ j h. let k : j < length t.marks = subst (λ n. j < n) lengths h in
-    same_answer (mark_at s.marks j) (mark_at t.marks j) (λ e. (t.least j k).1 ((s.least j h).0 e)) (λ e. (s.least j h).1 ((t.least j k).0 e))) in
+    same_truth (mark_at s.marks j) (mark_at t.marks j) (λ e. (t.least j k).1 ((s.least j h).0 e)) (λ e. (s.least j h).1 ((t.least j k).0 e))) in
     s.declarations ∙ (ap (λ ms. record { label = old.declarations.label; children = marked ms old.declarations.children }) marks ∙ sym t.declarations)
 
 pub no_more : (u : UnitView) (keep : List Text) (S : ℕ → Bool)

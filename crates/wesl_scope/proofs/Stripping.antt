@@ -4,11 +4,10 @@ use Rattle.std.specs.List.{swap}
 use Rattle.std.proofs.Math.Seq.{take-suc}
 use Rattle.std.proofs.lemmas.List.{take-set-le, length-set, take_all, length-take-le, get_or-drop, drop-set-lt, append-nil}
 use Rattle.std.proofs.lemmas.Bool.{and_parts, cases_eq}
-use Rattle.std.specs.Prelude.{Option, Some, None, MatchOption}
-use Rattle.std.specs.Option.{IsSome}
 use Rattle.wesl_tree_syntax.specs.Tree.{Forest, Tree, end, tree, forest_of, label_below, forest_below, tree_below}
 use Rattle.wesl_tree_syntax.specs.Unit.{UnitView, unit_below}
 use Rattle.wesl_scope.specs.Strip.{marked}
+use Rattle.wesl_scope_occurrences.proofs.Ended.{other_default}
 
 -- the marked ones
 abbrev pub picked : {A : Type 0} → List Bool → List A → List A
@@ -44,11 +43,6 @@ picked_more [] (y ∷ ys) m x h = absurd (omega arith)
 picked_more (n ∷ ms) [] m x h = absurd (omega arith)
 picked_more (true ∷ ms) (y ∷ ys) m x h = ap (λ zs. y ∷ zs) (picked_more ms ys m x (omega arith))
 picked_more (false ∷ ms) (y ∷ ys) m x h = picked_more ms ys m x (omega arith)
-
-other_default : {A : Type 0} (xs : List A) (i : ℕ) (d e : A) → i < length xs → get_or xs i d ≡ get_or xs i e
-other_default [] i d e h = absurd (omega arith)
-other_default (x ∷ xs) zero d e h = refl
-other_default (x ∷ xs) (suc i) d e h = other_default xs i d e (omega arith)
 
 swap_is : {A : Type 0} (xs : List A) (i j : ℕ) (d : A) → i < length xs → j < length xs → swap xs i j ≡ set (set xs i (get_or xs j d)) j (get_or xs i d)
 swap_is [] i j d h k = absurd (omega arith)
@@ -156,10 +150,3 @@ stripped_below u ms d h e =
     let l = b.0 in
     let f = marked_below n ms u.declarations.children b.1 in
     rw (front, e, l, f) refl
-
-pub some_if : {X : Type 0} (r : Option X) (b : Bool) (Q : X → Type 0) → MatchOption r (b ≡ false) Q → b ≡ true → IsSome r
-some_if None b Q h e = let f : true ≡ false = sym e ∙ h in cc
-some_if (Some x) b Q h e = refl
-
-pub some_of : {X : Type 0} (r : Option X) (x : X) (P : Type 0) (Q : X → Type 0) → r ≡ Some x → MatchOption r P Q → Q x
-some_of r x P Q e h = subst (λ o. MatchOption o P Q) e h

@@ -15,12 +15,13 @@ use Rattle.wesl_scope_clash.specs.Faithful.{is_global, name_of, binders_in, bind
 use Rattle.wesl_scope_clash.specs.Retargeted.{unbound_as, IsUnbound, FollowMeanings, RunByFirst, IsNumberedByMeaning}
 use Rattle.wesl_scope_clash.proofs.Picked.{Picked, none, some, picked, all_filtered}
 use Rattle.wesl_scope_clash.proofs.Faith.{all_decides, if_decides}
+use Rattle.wesl_scope_occurrences.proofs.Ended.{other_default}
 
-left : (a b : Bool) → (a && b) ≡ true → a ≡ true
+pub left : (a b : Bool) → (a && b) ≡ true → a ≡ true
 left true b h = refl
 left false b h = h
 
-right : (a b : Bool) → (a && b) ≡ true → b ≡ true
+pub right : (a b : Bool) → (a && b) ≡ true → b ≡ true
 right true b h = h
 right false b h = cc
 
@@ -48,21 +49,16 @@ visible_binder p (local e) h = refl
 visible_binder p (reference path) h = h
 visible_binder p word h = h
 
-other_default : {X : Type 0} (xs : List X) (i : ℕ) (d e : X) → i < length xs → get_or xs i d ≡ get_or xs i e
-other_default [] i d e h = absurd (omega (arith, h))
-other_default (x ∷ xs) zero d e h = refl
-other_default (x ∷ xs) (suc i) d e h = other_default xs i d e (omega (arith, h))
-
 at_place : {X Y : Type 0} (f : X → Y) (xs : List X) (i : ℕ) (y : Y) (x : X) → i < length xs → slice_index_or (map f xs) i y ≡ f (get_or xs i x)
 at_place f [] i y x h = absurd (omega (arith, h))
 at_place f (a ∷ xs) zero y x h = refl
 at_place f (a ∷ xs) (suc i) y x h = at_place f xs i y x (omega (arith, h))
 
-mapped_twice : {X Y Z : Type 0} (f : X → Y) (g : Y → Z) (xs : List X) → map g (map f xs) ≡ map (λ x. g (f x)) xs
+pub mapped_twice : {X Y Z : Type 0} (f : X → Y) (g : Y → Z) (xs : List X) → map g (map f xs) ≡ map (λ x. g (f x)) xs
 mapped_twice f g [] = refl
 mapped_twice f g (x ∷ xs) = ap (λ ys. g (f x) ∷ ys) (mapped_twice f g xs)
 
-mapped_length : {X Y : Type 0} (f : X → Y) (xs : List X) → length (map f xs) ≡ length xs
+pub mapped_length : {X Y : Type 0} (f : X → Y) (xs : List X) → length (map f xs) ≡ length xs
 mapped_length f [] = refl
 mapped_length f (x ∷ xs) = ap suc (mapped_length f xs)
 

@@ -11,6 +11,7 @@ use Rattle.wesl_tree_syntax.specs.Numbers.{AreNumbers, number_at}
 use Rattle.wesl_scope_clash.specs.Canonical.{index_in, canonical_from, canonical}
 use Rattle.wesl_scope_meanings.proofs.Entries.{keys_decide}
 use Rattle.wesl_scope_clash.proofs.Numbering.{key_at, Numbered, none_numbered, numbered, numbered_again, numbered_new}
+use Rattle.wesl_scope_occurrences.proofs.Cutting.{append_nil}
 
 -- numbers up to i agree
 module _ {K : Type 0} (ks : List K) (d : K) (ms ns : List ℕ) (a : AreNumbers ks ms) (b : AreNumbers ks ns) where
@@ -67,13 +68,9 @@ told k (x ∷ xs) = by (same_key x k) (keys_decide x k) (told k xs)
     by true d t = record { low = omega arith; found = λ h. d.0 refl; none = λ m h. absurd (omega (arith, h)) }
     by false d t = record { low = omega (arith, t.low); found = λ h. t.found (omega (arith, h)); none = past t (λ e. true≢false (sym (d.1 e))) }
 
-no_more : {X : Type 0} (xs : List X) → xs ++ [] ≡ xs
-no_more [] = refl
-no_more (x ∷ xs) = ap (λ ys. x ∷ ys) (no_more xs)
-
 numbers_from : (done : List Key) (numbers : List ℕ) (seen rest : List Key) → Numbered done numbers seen → AreNumbers (done ++ rest) (numbers ++ canonical_from seen rest)
 numbers_from done numbers seen [] s =
-    subst (λ ks. AreNumbers ks (numbers ++ [])) (sym (no_more done)) (subst (λ ns. AreNumbers done ns) (sym (no_more numbers)) (numbered done numbers seen s))
+    subst (λ ks. AreNumbers ks (numbers ++ [])) (sym (append_nil done)) (subst (λ ns. AreNumbers done ns) (sym (append_nil numbers)) (numbered done numbers seen s))
 numbers_from done numbers seen (k ∷ ks) s =
     let t = told k seen in
     let n = index_in k seen in

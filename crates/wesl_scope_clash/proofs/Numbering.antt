@@ -1,10 +1,11 @@
 -- Numbers given one by one, with the list of the keys that have one.
-use Rattle.std.proofs.Common.{◌≡◌, ◌≢◌, ℕ, ◌+◌, ◌<◌, ◌≤◌, List, [], ◌∷◌, ◌++◌, length, get_or, refl, sym, ◌∙◌, ap, arith, length-append, ◌⊎◌, inl, inr}
+use Rattle.std.proofs.Common.{◌≡◌, ◌≢◌, ℕ, ◌+◌, ◌<◌, ◌≤◌, List, [], ◌∷◌, ◌++◌, length, refl, sym, ◌∙◌, ap, arith, length-append, ◌⊎◌, inl, inr}
 use Rattle.std.proofs.lemmas.Grind.{common_steps}
 use Rattle.std.proofs.lemmas.Bool.{cases_lt}
 use Rattle.std.specs.Prelude.{slice_index_or}
 use Rattle.wesl_scope_meanings.specs.Scopes.{Key, free}
 use Rattle.wesl_tree_syntax.specs.Numbers.{AreNumbers, number_at}
+use Rattle.wesl_scope_occurrences.proofs.Joined.{at_end, before_end}
 
 abbrev pub key_at : List Key → ℕ → Key
 key_at ks i = slice_index_or ks i (free [])
@@ -16,12 +17,6 @@ pub record Numbered (keys : List Key) (numbers : List ℕ) (seen : List Key) : T
   pub used : (m : ℕ) → m < length seen → (j : ℕ) × (j < length keys) × (number_at numbers j ≡ m)
   pub apart : (m n : ℕ) → m < length seen → n < length seen → key_at seen m ≡ key_at seen n → m ≡ n
   pub first : (i m : ℕ) → i < length keys → m < number_at numbers i → (j : ℕ) × (j < i) × (number_at numbers j ≡ m)
-
-pub before_end : {X : Type 0} (xs : List X) (x d : X) (i : ℕ) → i < length xs → get_or (xs ++ x ∷ []) i d ≡ get_or xs i d
-before_end xs x d i h = grind (arith, common_steps)
-
-pub at_end : {X : Type 0} (xs : List X) (x d : X) (i : ℕ) → i ≡ length xs → get_or (xs ++ x ∷ []) i d ≡ x
-at_end xs x d i h = grind (arith, common_steps)
 
 pub last_or_before : (i n : ℕ) → i < n + 1 → (i < n) ⊎ (i ≡ n)
 last_or_before i n h = by_order (cases_lt i n) where

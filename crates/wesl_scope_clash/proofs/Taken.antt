@@ -7,6 +7,8 @@ use Rattle.wesl_tree_syntax.specs.Unit.{UnitOf, forest_of_unit}
 use Rattle.wesl_scope_clash.specs.Leaves.{are_leaves, KeepsSpelling}
 use Rattle.wesl_tree_copies.specs.Renumbered.{renumbered, after}
 use Rattle.std.proofs.lemmas.Bool.{and_parts}
+use Rattle.wesl_scope_occurrences.proofs.Cutting.{append_nil}
+use Rattle.wesl_scope_occurrences.proofs.Showing.{emptied}
 
 abbrev pub all_below : ℕ → List ℕ → Bool
 all_below n [] = true
@@ -69,10 +71,6 @@ module _ where
   taken (tree (path y) children others) ns v h =
       let w = and_parts (are_leaves children) (are_leaves others) v in let t = taken_node children others ns h (taken children ns w.0) (taken others (after children ns) w.1) in record { splits = t.0; many = t.1; below = t.2 }
 
-no_numbers : (ns : List ℕ) → length ns ≡ 0 → ns ≡ []
-no_numbers [] h = refl
-no_numbers (n ∷ ns) h = absurd (omega (arith, h))
-
 no_more : (xs : List ℕ) → xs ++ [] ≡ xs
 no_more [] = refl
 no_more (x ∷ xs) = ap (λ ys. x ∷ ys) (no_more xs)
@@ -81,7 +79,7 @@ no_more (x ∷ xs) = ap (λ ys. x ∷ ys) (no_more xs)
 pub numbers_are : (f : Forest) (ns : List ℕ) → are_leaves f ≡ true → length (identifiers f) ≡ length ns → identifiers (renumbered f ns) ≡ ns
 numbers_are f ns v h =
     let t = taken f ns v (omega (arith, h)) in
-    let none : after f ns ≡ [] = no_numbers (after f ns) (omega (arith, h, t.many)) in
+    let none : after f ns ≡ [] = emptied (after f ns) (omega (arith, h, t.many)) in
     sym (no_more (identifiers (renumbered f ns))) ∙ (ap (λ xs. identifiers (renumbered f ns) ++ xs) (sym none) ∙ t.splits)
 
 -- spelling: the names `g` of the new numbers, and `h` of the old ones
@@ -130,15 +128,11 @@ module _ {X : Type 0} (g h : ℕ → X) where
   respelled (tree (path y) children others) ns more v e =
       let w = and_parts (are_leaves children) (are_leaves others) v in respelled_node (path y) (path y) children others ns more e (λ rest. respelled children ns rest w.0) (respelled others (after children ns) more w.1)
 
-no_names : {X : Type 0} (xs : List X) → xs ++ [] ≡ xs
-no_names [] = refl
-no_names (x ∷ xs) = ap (λ ys. x ∷ ys) (no_names xs)
-
 pub spelled_as : KeepsSpelling
-spelled_as g h f ns v e = (respelled g h f ns [] v (e ∙ sym (no_names (map h (identifiers f))))).0
+spelled_as g h f ns v e = (respelled g h f ns [] v (e ∙ sym (append_nil (map h (identifiers f))))).0
 
 -- units with one forest are one
-unit_with : {X : Type 0} (a : LabelOf X) (b : ForestOf X) (c : LabelOf X) (d : ForestOf X) (e : LabelOf X) (f : ForestOf X) → UnitOf X
+pub unit_with : {X : Type 0} (a : LabelOf X) (b : ForestOf X) (c : LabelOf X) (d : ForestOf X) (e : LabelOf X) (f : ForestOf X) → UnitOf X
 unit_with a b c d e f = record { imports = record { label = a; children = b }; directives = record { label = c; children = d }; declarations = record { label = e; children = f } }
 
 one_of : {X : Type 0} (a a' : LabelOf X) (b b' : ForestOf X) (c c' : LabelOf X) (d d' : ForestOf X) (e e' : LabelOf X) (f f' : ForestOf X) → a ≡ a' → b ≡ b' → c ≡ c' → d ≡ d' → e ≡ e' → f ≡ f' → unit_with a b c d e f ≡ unit_with a' b' c' d' e' f'

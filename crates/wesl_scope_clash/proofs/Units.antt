@@ -55,13 +55,13 @@ each_below n (m ∷ ms) h =
     let f = each_below n ms (λ k d l. h (suc k) d (omega (arith, l))) in
     rw (e, f) refl
 
-three : (a b c : Bool) → (a && (b && (c && true))) ≡ true → (a && b && c) ≡ true
+pub three : (a b c : Bool) → (a && (b && (c && true))) ≡ true → (a && b && c) ≡ true
 three true true true h = refl
 three true true false h = h
 three true false c h = cc
 three false b c h = h
 
-parts_below : (n : ℕ) (i d e : Tree) → forest_below n (tree i.label i.children (tree d.label d.children (tree e.label e.children end))) ≡ true → (tree_below n i && tree_below n d && tree_below n e) ≡ true
+pub parts_below : (n : ℕ) (i d e : Tree) → forest_below n (tree i.label i.children (tree d.label d.children (tree e.label e.children end))) ≡ true → (tree_below n i && tree_below n d && tree_below n e) ≡ true
 parts_below n i d e h = three (tree_below n i) (tree_below n d) (tree_below n e) h
 
 pub still_below : (v w : UnitView) (names : List Text) (ns : List ℕ) → are_leaves (forest_of_unit (trees_of v)) ≡ true → IsRenumbered v names ns w → length ns ≡ length (numbers v) → All (λ m. m < length names) ns → unit_below w ≡ true

@@ -30,6 +30,7 @@ use Rattle.wesl_scope_clash.proofs.Along.{Lasts, lasts, any_there, Fits, Gathers
 use Rattle.wesl_scope_clash.proofs.References.{shape, shape_lasts, reads_of, Beside, Judges, judges, judged_one, outside_one}
 use Rattle.wesl_scope_clash.proofs.Directed.{Directed, all_directed, all_named}
 use Rattle.std.proofs.lemmas.Bool.{and_from, or_left, or_right}
+use Rattle.wesl_scope_clash.proofs.Canonical.{left, right as and_second}
 
 -- ---- truth
 pub same_truth : (a b : Bool) → (a ≡ true → b ≡ true) → (b ≡ true → a ≡ true) → a ≡ b
@@ -37,18 +38,10 @@ same_truth true b f g = sym (f refl)
 same_truth false true f g = g refl
 same_truth false false f g = refl
 
-and_first : (a b : Bool) → (a && b) ≡ true → a ≡ true
-and_first true b h = refl
-and_first false b h = h
-
-and_second : (a b : Bool) → (a && b) ≡ true → b ≡ true
-and_second true b h = h
-and_second false b h = absurd (let z : ⊥ = cc in z)
-
 module _ {X : Type 0} (p : X → Bool) where
   all_each : (xs : List X) → list_all p xs ≡ true → Every (λ x. p x ≡ true) xs
   all_each [] h = tt
-  all_each (x ∷ xs) h = (and_first (p x) (list_all p xs) h, all_each xs (and_second (p x) (list_all p xs) h))
+  all_each (x ∷ xs) h = (left (p x) (list_all p xs) h, all_each xs (and_second (p x) (list_all p xs) h))
 
   each_all : (xs : List X) → Every (λ x. p x ≡ true) xs → list_all p xs ≡ true
   each_all [] h = refl
@@ -77,7 +70,7 @@ each_any p (x ∷ xs) = (
 
 below_each : (n : ℕ) (p : ℕ → Bool) → all_below n p ≡ true → (m : ℕ) → m < n → p m ≡ true
 below_each zero p h m l = absurd (omega (arith, l))
-below_each (suc n) p h m l = at (m == n) (Decides-eqb m n).0 refl (below_each n p (and_first (all_below n p) (p n) h) m)
+below_each (suc n) p h m l = at (m == n) (Decides-eqb m n).0 refl (below_each n p (left (all_below n p) (p n) h) m)
   where
     at : (b : Bool) → (b ≡ true → m ≡ n) → (m == n) ≡ b → (m < n → p m ≡ true) → p m ≡ true
     at true d f before = ap p (d refl) ∙ and_second (all_below n p) (p n) h
@@ -260,7 +253,7 @@ module _ (names : List Text) (alike : List ℕ) (wide : ℕ) (spells : AreAlike 
       where
         to : (done.right && all_below n (outside_at alike done)) ≡ true → all_read_right names all ≡ true
         to h =
-            let inside : list_all judge all ≡ true = sym judges_all.rights ∙ and_first done.right (all_below n (outside_at alike done)) h in
+            let inside : list_all judge all ≡ true = sym judges_all.rights ∙ left done.right (all_below n (outside_at alike done)) h in
             let ends = below_each n (outside_at alike done) (and_second done.right (all_below n (outside_at alike done)) h) in
             let one : (o : Occurrence ℕ) → ((judge o ≡ true) × ((m : ℕ) → is_outside m o ≡ true → list_any (is_outside m) all ≡ true)) × ((o.name < n) × (reads_right names all o ≡ right_one o)) → reads_right names all o ≡ true =
             λ o k.
@@ -333,7 +326,7 @@ module _ (names : List Text) (alike : List ℕ) (wide : ℕ) (spells : AreAlike 
             leaves o m f g e =
                 let same : o.name ≡ m = (Decides-eqb o.name m).0 (and_second (is_module_name o.role) (o.name == m) e) in
                 ap (λ i. not (list_any (declares_so (other_than names i)) all)) (sym same)
-                ∙ (sym (ap (λ x. if x then not (list_any (declares_so (other_than names o.name)) all) else true) (and_first (is_module_name o.role) (o.name == m) e)) ∙ (sym (one_is o g) ∙ f))
+                ∙ (sym (ap (λ x. if x then not (list_any (declares_so (other_than names o.name)) all) else true) (left (is_module_name o.role) (o.name == m) e)) ∙ (sym (one_is o g) ∙ f))
 
             either : (y z : Bool) → z ≡ true → (if y then z else true) ≡ true
             either true z e = e

@@ -15,7 +15,7 @@ use Rattle.wesl_scope_occurrences.specs.Outer.{outers}
 use Rattle.wesl_scope_occurrences.specs.Pieces.{starts}
 use Rattle.wesl_scope_occurrences.specs.Ways.{AreNested, way, told}
 use Rattle.wesl_scope_occurrences.proofs.Collecting.{collected_occurrences, last_length}
-use Rattle.wesl_scope_occurrences.proofs.Starting.{collected_starts}
+use Rattle.wesl_scope_occurrences.proofs.Starting.{collected_starts, last_starts}
 use Rattle.wesl_scope_occurrences.proofs.Joined.{Each, InBlocks, whole_joined, way_module, way_unfolds}
 use Rattle.wesl_scope_occurrences.proofs.Module.{module_state, state_with}
 use Rattle.wesl_scope_occurrences.proofs.Respelled.{spelled_occurrences}
@@ -58,10 +58,6 @@ module _ (names : List Text) {X : Type 0} (f : Sense → X) (g : Found → X) (o
   each_same s c (ends here i ∷ es) h = each_same (sensing names s (ends here i)) (last_ended c.naming c) es (h ∙ sym (last_same c.naming c))
 
 -- and so are the places at which declarations begin
-last_starts : (ps : List ℕ) (c : Collected) → (last_ended ps c).starts ≡ c.starts
-last_starts [] c = refl
-last_starts (p ∷ ps) c = refl
-
 starts_same : (names : List Text) (s : Sensed) (c : Collected) (es : List Event) → length s.senses ≡ length c.found → s.starts ≡ c.starts → (sensed names s es).starts ≡ (collected c es).starts
 starts_same names s c [] h e = e
 starts_same names s c (begins ∷ es) h e = starts_same names (sensing names s begins) (collecting c begins) es h (ap₂ (λ xs x. xs ++ x ∷ []) e h)

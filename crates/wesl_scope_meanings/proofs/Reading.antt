@@ -22,6 +22,7 @@ use Rattle.wesl_scope_meanings.specs.declared.reader.Reader.{Reader}
 use Rattle.wesl_scope_meanings.specs.declared.sense.Sense.{Sense}
 use Rattle.wesl_scope_meanings.proofs.Spelling.{spelled_below, spelled_so}
 use Rattle.wesl_scope_meanings.proofs.Walked.{total_few, total_one}
+use Rattle.wesl_scope_open.proofs.Tables.{first_kept}
 
 -- what the walk knows, with other open binders
 abbrev with_binders : Open → Sensed → Sensed
@@ -130,10 +131,6 @@ notes_nothing r here st name still same = record {
 }
 
 -- an identifier
-first_kept : (a b : Bool) → (a || b) ≡ false → a ≡ false
-first_kept false b h = refl
-first_kept true b h = h
-
 -- the number of paths, once that of one more identifier is counted
 counted_one : (r : Reader) (ss : List SenseMet) (x : SenseMet) (n : ℕ) → map sense_view r.senses.items ≡ ss → r.paths ≡ path_total ss → (r.paths < 2 ^ 63 → n ≡ r.paths + path_count x) → n ≡ path_total (ss ++ x ∷ [])
 counted_one r ss x n shown counted one =

@@ -10,6 +10,7 @@ use Rattle.wesl_tree_names.specs.Path.{Text}
 use Rattle.wesl_tree_syntax.specs.Unit.{name_in}
 use Rattle.wesl_scope_open.specs.Named.{AreDistinct}
 use Rattle.wesl_scope_meanings.specs.Spellings.{AreSpellings}
+use Rattle.wesl_scope_occurrences.proofs.Joined.{length-one}
 
 at_map : {A B : Type 0} (f : A → B) (xs : List A) (i : ℕ) (d : A) (e : B) → i < length xs → get_or (map f xs) i e ≡ f (get_or xs i d)
 at_map f [] i d e h = absurd (omega (arith, h))
@@ -30,7 +31,7 @@ module _ (names texts : List Text) (alike : List ℕ) (s : AreSpellings names te
 
 -- ---- one more name
 
-get_before : {X : Type 0} (xs ys : List X) (i : ℕ) (d : X) → i < length xs → get_or (xs ++ ys) i d ≡ get_or xs i d
+pub get_before : {X : Type 0} (xs ys : List X) (i : ℕ) (d : X) → i < length xs → get_or (xs ++ ys) i d ≡ get_or xs i d
 get_before [] ys i d h = absurd (omega (arith, h))
 get_before (x ∷ xs) ys zero d h = refl
 get_before (x ∷ xs) ys (suc i) d h = get_before xs ys i d (omega (arith, h))
@@ -38,10 +39,6 @@ get_before (x ∷ xs) ys (suc i) d h = get_before xs ys i d (omega (arith, h))
 get_last : {X : Type 0} (xs : List X) (y d : X) → get_or (xs ++ y ∷ []) (length xs) d ≡ y
 get_last [] y d = refl
 get_last (x ∷ xs) y d = get_last xs y d
-
-length_last : {X : Type 0} (xs : List X) (y : X) → length (xs ++ y ∷ []) ≡ suc (length xs)
-length_last [] y = refl
-length_last (x ∷ xs) y = ap suc (length_last xs y)
 
 none_any : (x : Text) (xs : List Text) (i : ℕ) → list_any (bytes_eq x) xs ≡ false → i < length xs → name_in xs i ≡ x → ⊥
 none_any x [] i n h e = omega (arith, h)
@@ -60,7 +57,7 @@ one_apart : (texts : List Text) (x : Text) → AreDistinct texts → list_any (b
 one_apart texts x apart new i j hi hj e = by (cases_lt i (length texts)) (cases_lt j (length texts))
   where
     at_end : (k : ℕ) → k < length (texts ++ x ∷ []) → length texts ≤ k → k ≡ length texts
-    at_end k h g = omega (arith, h, g, length_last texts x)
+    at_end k h g = omega (arith, h, g, length-one texts x)
 
     old : (k : ℕ) → k < length texts → name_in (texts ++ x ∷ []) k ≡ name_in texts k
     old k h = get_before texts (x ∷ []) k [] h
@@ -87,7 +84,7 @@ put_grows texts x apart = by (list_any (bytes_eq x) texts) refl
   where
     by : (b : Bool) → list_any (bytes_eq x) texts ≡ b → AreDistinct (if b then texts else texts ++ x ∷ []) × Grows texts (if b then texts else texts ++ x ∷ [])
     by true e = (apart, record { longer = omega arith; same = λ k h. refl })
-    by false e = (one_apart texts x apart e, record { longer = omega (arith, length_last texts x); same = λ k h. get_before texts (x ∷ []) k [] h })
+    by false e = (one_apart texts x apart e, record { longer = omega (arith, length-one texts x); same = λ k h. get_before texts (x ∷ []) k [] h })
 
 all_grown : (n m : ℕ) (xs : List ℕ) → n ≤ m → All (λ k. k < n) xs → All (λ k. k < m) xs
 all_grown n m xs h a i d l = let r : get_or xs i d < n = a i d l in omega (arith, r, h)

@@ -132,7 +132,7 @@ binder_naming globally here x p old = a_none refl refl
 binder_naming a_parameter here x p old = a_none refl refl
 binder_naming a_value here x p old = value_naming here.is_local p old
 
-none_named : (d : Declares) (l : Label) (old : List ℕ) (p : ℕ) → named_by l old p ≡ old → named_after d l old p ≡ old
+pub none_named : (d : Declares) (l : Label) (old : List ℕ) (p : ℕ) → named_by l old p ≡ old → named_after d l old p ≡ old
 none_named globally l old p e = refl
 none_named a_parameter l old p e = refl
 none_named a_value l old p e = e

@@ -16,7 +16,7 @@ module _ {A : Type 0} (view : A → Found) (e : ℕ) where
   ended_past zero (x ∷ xs) h = absurd (omega arith)
   ended_past (suc p) (x ∷ xs) h = ap (λ os. view x ∷ os) (ended_past p xs (omega arith))
 
-other_default : {X : Type 0} (xs : List X) (p : ℕ) (d e : X) → p < length xs → get_or xs p d ≡ get_or xs p e
+pub other_default : {X : Type 0} (xs : List X) (p : ℕ) (d e : X) → p < length xs → get_or xs p d ≡ get_or xs p e
 other_default [] p d e h = absurd (omega arith)
 other_default (x ∷ xs) zero d e h = refl
 other_default (x ∷ xs) (suc p) d e h = other_default xs p d e (omega arith)

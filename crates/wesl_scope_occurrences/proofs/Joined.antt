@@ -12,6 +12,7 @@ use Rattle.std.specs.List.{All}
 use Rattle.wesl_scope_occurrences.specs.Views.{occurrence_view}
 use Rattle.wesl_scope_occurrences.specs.declared.occurrence.Occurrence as found
 use Rattle.wesl_scope_occurrences.specs.Ways.{AreNested, grown, way, told}
+use Rattle.wesl_scope_occurrences.proofs.Collecting.{none_named}
 
 abbrev pub Each : {X : Type 0} → (X → Type 0) → List X → Type 0
 Each P [] = Unit {0}
@@ -25,10 +26,10 @@ pub Each-append : {X : Type 0} (P : X → Type 0) (xs ys : List X) → Each P xs
 Each-append P [] ys h k = k
 Each-append P (x ∷ xs) ys h k = (h.0, Each-append P xs ys h.1 k)
 
-before_end : {X : Type 0} (xs : List X) (x d : X) (i : ℕ) → i < length xs → get_or (xs ++ x ∷ []) i d ≡ get_or xs i d
+pub before_end : {X : Type 0} (xs : List X) (x d : X) (i : ℕ) → i < length xs → get_or (xs ++ x ∷ []) i d ≡ get_or xs i d
 before_end xs x d i h = grind (arith, common_steps)
 
-at_end : {X : Type 0} (xs : List X) (x d : X) (i : ℕ) → i ≡ length xs → get_or (xs ++ x ∷ []) i d ≡ x
+pub at_end : {X : Type 0} (xs : List X) (x d : X) (i : ℕ) → i ≡ length xs → get_or (xs ++ x ∷ []) i d ≡ x
 at_end xs x d i h = grind (arith, common_steps)
 
 -- ways
@@ -67,7 +68,7 @@ last_or_before k n h = by_order (cases_lt k n)
     by_order (inl l) = inl l
     by_order (inr l) = inr (omega arith)
 
-length-one : {X : Type 0} (xs : List X) (x : X) → length (xs ++ x ∷ []) ≡ suc (length xs)
+pub length-one : {X : Type 0} (xs : List X) (x : X) → length (xs ++ x ∷ []) ≡ suc (length xs)
 length-one xs x = omega (arith, length-append xs (x ∷ []))
 
 nested_more : (outer : List ℕ) (b : ℕ) → b < length outer → AreNested outer → AreNested (outer ++ b ∷ [])
@@ -575,14 +576,9 @@ module _ (sh : Shape) (fs : Fields) (s : State) (so : Sound s) (nw : NodeWithin 
       Each-weaker (λ p. p < length s.found) (λ p. p < length s1.found) (λ p l. omega (arith, l, a.counted, ap length op.found)) fs.named nm
 
 -- a tree that is no identifier declares no name
-names_none : (d : Declares) (l : Label) (ps : List ℕ) (p : ℕ) → named_by l ps p ≡ ps → named_after d l ps p ≡ ps
-names_none globally l ps p e = refl
-names_none a_parameter l ps p e = refl
-names_none a_value l ps p e = e
-
 same_named : (fs : Fields) (l : Label) (others : Forest) (s s1 : State) → named_by l fs.named (length s.found) ≡ fs.named → (f : Forest) → Joined fs s f (walk (passed fs) s1 others) → Joined fs s f (walk (stepped fs l (length s.found)) s1 others)
 same_named fs l others s s1 e f j =
-    subst (λ ps. Joined fs s f (walk (record { node = after_field fs.node; named = ps }) s1 others)) (sym (names_none fs.node.declares l fs.named (length s.found) e)) j
+    subst (λ ps. Joined fs s f (walk (record { node = after_field fs.node; named = ps }) s1 others)) (sym (none_named fs.node.declares l fs.named (length s.found) e)) j
 
 pub joined : (f : Forest) (fs : Fields) (s : State) → Sound s → NodeWithin (length s.outer) fs.node → Named s fs.named → Joined fs s f (walk fs s f)
 joined end fs s so nw nm = end_joined fs s so

@@ -63,7 +63,7 @@ meetings_beginning : (b : Bool) → meetings (beginning b) ≡ 0
 meetings_beginning true = refl
 meetings_beginning false = refl
 
-last_starts : (ps : List ℕ) (c : Collected) → (last_ended ps c).starts ≡ c.starts
+pub last_starts : (ps : List ℕ) (c : Collected) → (last_ended ps c).starts ≡ c.starts
 last_starts [] c = refl
 last_starts (p ∷ ps) c = refl
 

@@ -6,15 +6,16 @@ use Rattle.wesl_scope_occurrences.specs.Occurrences.{Block, Standing, module_nam
 use Rattle.wesl_scope_occurrences.specs.Events.{EventOf, opens, closes}
 use Rattle.wesl_scope_open.specs.Scopes.{is_visible, binds}
 use Rattle.wesl_scope_open.specs.Open.{Readings, after, number_of}
-use Rattle.wesl_scope_open.proofs.Runs.{Every, every_append, every_so, append_end, map_append, Found, shows, first_in, sights, sight_at, AllWithin, within_append, none_shows, shows_append, elsewhere}
+use Rattle.wesl_scope_open.proofs.Runs.{Every, every_append, every_so, map_append, Found, shows, first_in, sights, sight_at, AllWithin, within_append, none_shows, shows_append, elsewhere}
 use Rattle.wesl_scope_open.proofs.Good.{Placed, PlacedAs, wider, none_outside, Among, among_first, among_second, Outwards, Knows, holding, Ran, Outside, Good, after_append, sights_append, ran_then}
 use Rattle.wesl_scope_open.proofs.Still.{Still, calm_shows, calm_places, knows_still}
+use Rattle.wesl_scope_occurrences.proofs.Cutting.{append_nil}
 
 -- what runs in a block, by what runs in it once it is open
 pub in_block : (all : List Found) (known : Text → Bool) (v w : Readings) (outer : List Readings) (es : List (EventOf Text)) (os : List Found) (b : Block) (x : ℕ)
     → ((n : Text) → sights n known (holding v (v ∷ outer)) es ≡ map (sight_at n all) os) → AllWithin (holding v (v ∷ outer)) es → after (holding v (v ∷ outer)) es ≡ holding w (v ∷ outer) → Knows all v b x → Ran all known v outer (opens ∷ (es ++ closes ∷ [])) os b x
 in_block all known v w outer es os b x seen within state knows = record {
-  seen = λ n. sights_append n known (holding v (v ∷ outer)) es (closes ∷ []) ∙ (append_end (sights n known (holding v (v ∷ outer)) es) ∙ seen n);
+  seen = λ n. sights_append n known (holding v (v ∷ outer)) es (closes ∷ []) ∙ (append_nil (sights n known (holding v (v ∷ outer)) es) ∙ seen n);
   within = (tt, within_append (holding v (v ∷ outer)) es (closes ∷ []) within (tt, tt));
   left = v;
   state = after_append (holding v (v ∷ outer)) es (closes ∷ []) ∙ ap (λ s. after s (closes ∷ [])) state;

@@ -7,8 +7,9 @@ use Rattle.wesl_scope_occurrences.specs.Occurrences.{Block, Standing, module_nam
 use Rattle.wesl_scope_occurrences.specs.Walk.{Here, numbers_at}
 use Rattle.wesl_scope_occurrences.specs.Events.{EventOf, meets, Level, Part, of_none, part_of, next_part, is_second, is_of_module, is_some, beginning, within, ending, after_level, events_from}
 use Rattle.wesl_scope_open.specs.Open.{Readings, or_module}
-use Rattle.wesl_scope_open.proofs.Runs.{append_end, Found, shows, first_in, key_read}
+use Rattle.wesl_scope_open.proofs.Runs.{Found, shows, first_in, key_read}
 use Rattle.wesl_scope_open.proofs.Still.{by_numbers, IsCalm, StillIn, knows, Still, still_none_in, still_then_in}
+use Rattle.wesl_scope_occurrences.proofs.Cutting.{append_nil}
 
 -- ---- labels
 module _ {I : Type 0} where
@@ -230,7 +231,7 @@ module _ (R : List Found → Readings → ℕ → Type 0) (p : ℕ) (s : Surroun
   met_first : (p' : ℕ) (es : List (EventOf Text)) (os : List Found) (r : Standing) → IsCalm r → StillIn R (suc p) p' es os
       → StillIn R p p' (meets (by_numbers s) r x ∷ (es ++ ending (by_numbers s) r x)) (found_as r x p s ∷ os)
   met_first p' es os r h g =
-      subst (λ fs. StillIn R p p' (meets (by_numbers s) r x ∷ fs) (found_as r x p s ∷ os)) (sym (ap (λ fs. es ++ fs) (no_end r h) ∙ append_end es))
+      subst (λ fs. StillIn R p p' (meets (by_numbers s) r x ∷ fs) (found_as r x p s ∷ os)) (sym (ap (λ fs. es ++ fs) (no_end r h) ∙ append_nil es))
       (still_then_in R p (suc p) p' (meets (by_numbers s) r x ∷ []) es (found_as r x p s ∷ []) os (met_one r h) g)
 
 -- ---- they change nothing

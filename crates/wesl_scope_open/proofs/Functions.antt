@@ -7,12 +7,13 @@ use Rattle.wesl_tree_syntax.specs.Tree.{LabelOf, ForestOf, end, tree, kind, iden
 use Rattle.wesl_scope_occurrences.specs.Occurrences.{Block, Standing, module_name, parameter, local, reference, word, of_parameter, globally, node_by, after_field, opens as opens_in, blocks_at, count, blocks_in, occurrences_from}
 use Rattle.wesl_scope_occurrences.specs.Events.{EventOf, meets, of_none, after_level, events_from}
 use Rattle.wesl_scope_open.specs.Open.{Readings, with_visible, after}
-use Rattle.wesl_scope_open.proofs.Runs.{Every, every_append, every_so, append_end, map_append, Found, shows, sights, sight_at, ReadWithin, AllWithin, within_append, shows_append, apart}
+use Rattle.wesl_scope_open.proofs.Runs.{Every, every_append, every_so, map_append, Found, shows, sights, sight_at, ReadWithin, AllWithin, within_append, shows_append, apart}
 use Rattle.wesl_scope_open.proofs.Good.{holding, Outside, after_append, sights_append}
 use Rattle.wesl_scope_open.proofs.Still.{by_numbers, IsCalm, StillIn, calm_shows}
 use Rattle.wesl_scope_open.proofs.Forests.{shape_in, level_by, count_unfolds, occurrences_unfold, events_unfold, calm_tree, no_ident_there, simple_node, simple_level, anything, reads_any, calm_tree_still_in}
 use Rattle.wesl_scope_open.proofs.Lively.{stand, round_in, tree_events, tree_found}
 use mathlib.Core.Bool.{and-false, or-false}
+use Rattle.wesl_scope_occurrences.proofs.Cutting.{append_nil}
 
 -- a module name stands in the module's block, a parameter in block m alone
 abbrev pub HeadedAs : ℕ → Standing → Block → Type 0
@@ -156,8 +157,8 @@ one_header l n x c g e hl hn m d w u p p' q ep =
     let o3 = tree_found (shape_in n) g h (suc p1) q2 in
     header_as m p p' (e1 ++ (e2 ++ e3)) (events_from level q1 f0) (o1 ++ (o2 ++ o3)) (occurrences_from node p q1 f0)
     (events_unfold l c f1 level q1 nl
-    ∙ ap (λ y. e1 ++ (e2 ++ y)) (append_end (events_from (after_level (after_level level)) q2 f2) ∙ (events_unfold n g end (after_level (after_level level)) q2 nn ∙ append_end e3)))
-    (occurrences_unfold l c f1 node p q1 nl ∙ ap (λ y. o1 ++ (o2 ++ y)) (occurrences_unfold n g end (after_field (after_field node)) (suc p1) q2 nn ∙ append_end o3))
+    ∙ ap (λ y. e1 ++ (e2 ++ y)) (append_nil (events_from (after_level (after_level level)) q2 f2) ∙ (events_unfold n g end (after_level (after_level level)) q2 nn ∙ append_nil e3)))
+    (occurrences_unfold l c f1 node p q1 nl ∙ ap (λ y. o1 ++ (o2 ++ y)) (occurrences_unfold n g end (after_field (after_field node)) (suc p1) q2 nn ∙ append_nil o3))
     (header_then m p p1 p' e1 (e2 ++ e3) o1 (o2 ++ o3) (header_still m p p1 e1 o1 (calm_tree_still_in anything l c hl h (reads_any h refl refl) p p1 q1 refl))
     (header_then m p1 (suc p1) p' e2 e3 o2 o3 (header_parameter m p1 x d w u)
     (header_still m (suc p1) p' e3 o3 (calm_tree_still_in anything n g hn h (reads_any h refl refl) (suc p1) p' q2 (omega (arith, ep, c0, c1, c2, c3))))))

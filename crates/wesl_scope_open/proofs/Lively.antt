@@ -4,12 +4,13 @@ use Rattle.wesl_tree_names.specs.Path.{Text, Path}
 use Rattle.wesl_tree_syntax.specs.Tree.{Kind, LabelOf, ForestOf, end, tree, kind, at, ident, binder, attributes, statements, compound, for_loop, declaration as declaration_kind}
 use Rattle.wesl_scope_occurrences.specs.Occurrences.{Block, Shape, of_body, of_holder, of_loop, of_continuing, of_for, of_value, of_other, shape_of, opens as opens_in, Surroundings, Declares, globally, a_value, node_by, after_field, blocks_at, count, blocks_in, occurrences_from}
 use Rattle.wesl_scope_occurrences.specs.Events.{EventOf, opens, closes, of_none, is_some, within, after_level, events_from}
-use Rattle.wesl_scope_open.proofs.Runs.{append_end, append_again, Found}
+use Rattle.wesl_scope_open.proofs.Runs.{append_again, Found}
 use Rattle.wesl_scope_open.proofs.Good.{Outwards, outwards_later, Good, good_then}
 use Rattle.wesl_scope_open.proofs.Still.{by_numbers, still_none, still_good, declares}
 use Rattle.wesl_scope_open.proofs.Blocks.{opened_second}
 use Rattle.wesl_scope_open.proofs.Around.{good_at, good_as, Around, around_as, around_lower, around_good, around_before, around_after, around_same, closing}
 use Rattle.wesl_scope_open.proofs.Forests.{is_ident, shape_in, level_by, count_unfolds, blocks_unfold, occurrences_unfold, unfolded, events_unfold, calm, calm_tree, no_ident_there, simple_node, simple_level, Sits, calm_still, calm_tree_still}
+use Rattle.wesl_scope_occurrences.proofs.Cutting.{append_nil}
 
 -- in a block
 abbrev pub stand : Block → Option ℕ → Bool → Bool → Surroundings Block
@@ -89,7 +90,7 @@ tree_of l c n h lo k up d w u p p' q q' low way e f =
     let z : count {I = Text} end ≡ 0 = refl in
     let y : blocks_in {I = Text} end ≡ 0 = refl in
     good_as lo b p p' q q' (events_from (simple_level s None globally) q (tree l c end)) (tree_events (shape_in l) c s q) (occurrences_from (simple_node s None globally) p q (tree l c end)) (tree_found (shape_in l) c s p q)
-    (sym (events_unfold l c end (simple_level s None globally) q n ∙ append_end (tree_events (shape_in l) c s q))) (sym (occurrences_unfold l c end (simple_node s None globally) p q n ∙ append_end (tree_found (shape_in l) c s p q)))
+    (sym (events_unfold l c end (simple_level s None globally) q n ∙ append_nil (tree_events (shape_in l) c s q))) (sym (occurrences_unfold l c end (simple_node s None globally) p q n ∙ append_nil (tree_found (shape_in l) c s p q)))
     (h lo k up d w u p p' q q' low way (omega (arith, e, ec, z)) (omega (arith, f, eb, y)))
 
 calm_node : (l : LabelOf Text) (c : ForestOf Text) → calm_tree l c ≡ true → IsGoodNode (shape_in l) c
@@ -164,8 +165,8 @@ body_within d0 ss hd hs lo b c l m up d w u sits p p' q q' low way ep eq =
       fs = events_from (simple_level (stand (m ∷ up) d w u) None globally) q2 ss;
       os = occurrences_from (simple_node h None globally) p q1 d0;
       us = occurrences_from (simple_node (stand (m ∷ up) d w u) None globally) (p + count d0) q2 ss;
-      same_events = ap (λ t. events_from (simple_level h None globally) q1 d0 ++ t) (append_end (events_from (simple_level (stand (m ∷ up) d w u) None globally) q2 ss));
-      same_found = ap (λ t. occurrences_from (simple_node h None globally) p q1 d0 ++ t) (append_end (occurrences_from (simple_node (stand (m ∷ up) d w u) None globally) (p + count d0) q2 ss));
+      same_events = ap (λ t. events_from (simple_level h None globally) q1 d0 ++ t) (append_nil (events_from (simple_level (stand (m ∷ up) d w u) None globally) q2 ss));
+      same_found = ap (λ t. occurrences_from (simple_node h None globally) p q1 d0 ++ t) (append_nil (occurrences_from (simple_node (stand (m ∷ up) d w u) None globally) (p + count d0) q2 ss));
       still = calm_still b d0 hd h None globally sits p (p + count d0) q1 refl;
       good = good_at lo (m ∷ up) (p + count d0) p' p' q q2 q' q' (events_from (simple_level (stand (m ∷ up) d w u) None globally) q2 ss) (occurrences_from (simple_node (stand (m ∷ up) d w u) None globally) (p + count d0) q2 ss) refl (omega arith) (omega arith)
           (hs lo m up d w u (p + count d0) p' q2 q' (omega (arith, low)) (outwards_later lo q q2 (m ∷ up) (omega arith) way) (omega (arith, ep, c1)) (omega (arith, eq, b1)));
@@ -187,7 +188,7 @@ held_body d0 ss hd hs lo b m up d w u p p' q q' low way ep eq =
     let c1 : count (bodied d0 ss end) ≡ count (body_fields d0 ss) + 0 = refl in
     let b1 : blocks_in (bodied d0 ss end) ≡ 0 + blocks_in (body_fields d0 ss) + 0 = refl in
     around_as lo b (m ∷ up) p p' q q' (tree_events of_body (body_fields d0 ss) h q) (events_from (simple_level h None globally) q (bodied d0 ss end)) (tree_found of_body (body_fields d0 ss) h p q) (occurrences_from (simple_node h None globally) p q (bodied d0 ss end))
-    (append_end (tree_events of_body (body_fields d0 ss) h q)) (append_end (tree_found of_body (body_fields d0 ss) h p q))
+    (append_nil (tree_events of_body (body_fields d0 ss) h q)) (append_nil (tree_found of_body (body_fields d0 ss) h p q))
     (body_around d0 ss hd hs lo b m up d w u p p' q q' low way (omega (arith, ep, c1)) (omega (arith, eq, b1)))
 
 held_before : (l : LabelOf Text) (c o : ForestOf Text) → calm_tree l c ≡ true → IsHeld o → IsHeld (tree l c o)
@@ -218,7 +219,7 @@ third_good : (l : LabelOf Text) (c : ForestOf Text) → is_ident l ≡ false →
 third_good l c n h lo k up d w u p p' q q' low way ep eq =
     let s = stand (k ∷ up) d w u in
     good_as lo (k ∷ up) p p' q q' (tree_events (shape_in l) c s q) (tree_events (shape_in l) c s q ++ []) (tree_found (shape_in l) c s p q) (tree_found (shape_in l) c s p q ++ [])
-    (append_end (tree_events (shape_in l) c s q)) (append_end (tree_found (shape_in l) c s p q)) (tree_of l c n h lo k up d w u p p' q q' low way ep eq)
+    (append_nil (tree_events (shape_in l) c s q)) (append_nil (tree_found (shape_in l) c s p q)) (tree_of l c n h lo k up d w u p p' q q' low way ep eq)
 
 module _ (l n : LabelOf Text) (c d0 ss v : ForestOf Text) (hl : calm_tree l c ≡ true) (hd : calm d0 ≡ true) (hs : IsGood ss) (hn : is_ident n ≡ false) (hv : IsGood (tree n v end)) where
   abbrev loop_fields : ForestOf Text
@@ -346,7 +347,7 @@ module _ (l i j m : LabelOf Text) (c ci cj cm d0 ss : ForestOf Text) (hl : calm_
       let g4 = tree_of m cm nm hm lo (suc q) (q ∷ b) d w u p3 p4 q4 q5 (omega (arith, low)) below refl refl in
       let g23 = good_at lo (q ∷ b) p1 p3 p3 (suc (suc q)) q2 q4 q4 (e2 ++ e3) (o2 ++ o3) refl (omega arith) (omega arith) (good_then lo (q ∷ b) p1 p2 p3 q2 q3 q4 e2 e3 o2 o3 (omega (arith, low)) g2 g3) in
       let g234 = opened_second lo (q ∷ b) p1 p3 p4 (suc q) q4 q5 (omega (arith, low)) (omega arith) (deep (suc q) (omega arith)) (e2 ++ e3) e4 (o2 ++ o3) o4 g23 g4 in
-      let g5 = good_as lo (q ∷ b) p4 p' q5 q' (tree_events of_body own_body s q5) e5 (tree_found of_body own_body s p4 q5) o5 (append_end (tree_events of_body own_body s q5)) (append_end (tree_found of_body own_body s p4 q5))
+      let g5 = good_as lo (q ∷ b) p4 p' q5 q' (tree_events of_body own_body s q5) e5 (tree_found of_body own_body s p4 q5) o5 (append_nil (tree_events of_body own_body s q5)) (append_nil (tree_found of_body own_body s p4 q5))
       (around_same lo (q ∷ b) p4 p' q5 q' (tree_events of_body own_body s q5) (tree_found of_body own_body s p4 q5) (omega (arith, low)) (deep q5 (omega arith))
       (body_around d0 ss hd hs lo (q ∷ b) q b d w u p4 p' q5 q' (omega (arith, low)) (deep q5 (omega arith)) (omega (arith, ep, cl, c1, c2, c3, c4)) (omega (arith, eq, bl, b1, b2, b3, b4)))) in
       let rest = good_then lo (q ∷ b) p1 p4 p' (suc q) q5 q' ((e2 ++ e3) ++ x4) e5 ((o2 ++ o3) ++ o4) o5 (omega (arith, low)) g234 g5 in

@@ -9,8 +9,9 @@ use Rattle.wesl_scope_occurrences.specs.Events.{EventOf, begins, meets, opens, c
 use Rattle.wesl_tree_names.specs.Path.{Text}
 use Rattle.wesl_scope_open.specs.Open.{Open, declaring}
 use Rattle.wesl_scope_open.specs.Matched.{AreMatched, AreMetSo, AreMetBelow}
-use Rattle.wesl_scope_open.proofs.Runs.{append_again, append_end}
+use Rattle.wesl_scope_open.proofs.Runs.{append_again}
 use Rattle.wesl_scope_open.proofs.Forests.{is_ident, shape_in, Seen, a_binder, a_reference, a_word, no_ident, seen, level_by, events_unfold}
+use Rattle.wesl_scope_occurrences.proofs.Cutting.{append_nil}
 
 module _ {I : Type 0} (P : I → Type 0) where
   abbrev pub IsLabelSo : LabelOf I → Type 0
@@ -98,7 +99,7 @@ module _ {I : Type 0} where
 
   pub events_matched : (u : UnitOf I) → AreMatched 0 (events u)
   events_matched u =
-      subst (AreMatched 0) (append_end (events u))
+      subst (AreMatched 0) (append_nil (events u))
       (all_so Anything Passes (λ d rest m. m) passes_both passes_wrapped (λ d rest m. m) (λ h r x p d rest m. m) (λ h x p d rest m. m) (forest_of_unit u) (labels_any (forest_of_unit u)) (plain_level outermost (of_none ∷ of_none ∷ of_module ∷ [])) 1 0 [] tt)
 
 -- ---- numbers

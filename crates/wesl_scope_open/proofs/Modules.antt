@@ -7,11 +7,12 @@ use Rattle.wesl_scope_occurrences.specs.Occurrences.{Block, Standing, module_nam
 use Rattle.wesl_scope_occurrences.specs.Events.{EventOf, opens, closes}
 use Rattle.wesl_scope_open.specs.Scopes.{is_visible, binds}
 use Rattle.wesl_scope_open.specs.Open.{Readings, after, number_of, is_declared_by}
-use Rattle.wesl_scope_open.proofs.Runs.{Every, every_append, every_so, append_end, map_append, Found, shows, sights, sight_at, AllWithin, within_append, none_shows, same_shows, shows_append, apart, elsewhere}
+use Rattle.wesl_scope_open.proofs.Runs.{Every, every_append, every_so, map_append, Found, shows, sights, sight_at, AllWithin, within_append, none_shows, same_shows, shows_append, apart, elsewhere}
 use Rattle.wesl_scope_open.proofs.Good.{Placed, PlacedAs, hidden, Among, Knows, holding, Outside, Ran, Good, after_append, sights_append}
 use Rattle.wesl_scope_open.proofs.Still.{IsCalm, StillIn}
 use Rattle.wesl_scope_open.proofs.Functions.{Headed, HeadedAs, Header}
 use mathlib.Core.Bool.{or-false}
+use Rattle.wesl_scope_occurrences.proofs.Cutting.{append_nil}
 
 -- names of the module stand in its block, and others in blocks that open here
 abbrev pub ApartAs : ℕ → ℕ → Standing → Block → Type 0
@@ -171,7 +172,7 @@ module _ (p p1 p' q q' : ℕ) (some : 1 ≤ q) (es fs : List (EventOf Text)) (os
     function_seen : (n : Text) → sights n known (holding v outer) (opens ∷ ((es ++ fs) ++ closes ∷ [])) ≡ map (sight_at n all) (os ++ us)
     function_seen n =
         sights_append n known (holding v (v ∷ outer)) (es ++ fs) (closes ∷ [])
-        ∙ (append_end (sights n known (holding v (v ∷ outer)) (es ++ fs))
+        ∙ (append_nil (sights n known (holding v (v ∷ outer)) (es ++ fs))
         ∙ (sights_append n known (holding v (v ∷ outer)) es fs
         ∙ (ap₂ (λ a t. a ++ sights n known t fs) (head.seen all known out v (v ∷ outer) n) (head.state v (v ∷ outer)) ∙ (ap (λ a. map (sight_at n all) os ++ a) (ran.seen n) ∙ sym (map_append (sight_at n all) os us)))))
 

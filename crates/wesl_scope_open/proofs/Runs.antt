@@ -25,10 +25,6 @@ pub every_so : {X : Type 0} (P Q : X → Type 0) → ((x : X) → P x → Q x) �
 every_so P Q f [] h = tt
 every_so P Q f (x ∷ xs) h = (f x h.0, every_so P Q f xs h.1)
 
-pub append_end : {X : Type 0} (xs : List X) → xs ++ [] ≡ xs
-append_end [] = refl
-append_end (x ∷ xs) = ap (λ ys. x ∷ ys) (append_end xs)
-
 pub append_again : {X : Type 0} (xs ys zs : List X) → (xs ++ ys) ++ zs ≡ xs ++ (ys ++ zs)
 append_again [] ys zs = refl
 append_again (x ∷ xs) ys zs = ap (λ ws. x ∷ ws) (append_again xs ys zs)

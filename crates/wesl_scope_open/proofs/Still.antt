@@ -8,9 +8,10 @@ use Rattle.wesl_scope_occurrences.specs.Walk.{Here}
 use Rattle.wesl_scope_occurrences.specs.Events.{EventOf, meets, ends}
 use Rattle.wesl_scope_open.specs.Scopes.{is_visible, binds}
 use Rattle.wesl_scope_open.specs.Open.{Readings, with_visible, after, of_block, number_of}
-use Rattle.wesl_scope_open.proofs.Runs.{Every, every_append, every_so, map_append, append_end, Found, shows, first_in, sights, sight_at, AllWithin, ReadWithin, within_append, none_shows, is_le, not_le}
+use Rattle.wesl_scope_open.proofs.Runs.{Every, every_append, every_so, map_append, Found, shows, first_in, sights, sight_at, AllWithin, ReadWithin, within_append, none_shows, is_le, not_le}
 use Rattle.wesl_scope_open.proofs.Good.{Placed, PlacedAs, Among, Outwards, Knows, first_same, first_within, holding, Ran, Outside, Good, after_append, sights_append}
 use mathlib.Core.Bool.{or-false, or-true}
+use Rattle.wesl_scope_occurrences.proofs.Cutting.{append_nil}
 
 -- surroundings by the numbers of their blocks
 abbrev pub by_numbers : Surroundings Block → Here
@@ -164,7 +165,7 @@ module _ (lo k : ℕ) (up : Block) (p p' q : ℕ) (way : Outwards lo q (k ∷ up
     declared_ran = record {
       seen = λ n.
           ap₂ (λ c r. c ∷ r) (ap₂ (λ c y. (of_block c x, y)) at (kn n))
-          (sights_append n known (holding v outer) es (ends here x ∷ []) ∙ (append_end (sights n known (holding v outer) es) ∙ s.seen all known out v outer (λ y h i. before_end y (omega (arith, h)) i) n));
+          (sights_append n known (holding v outer) es (ends here x ∷ []) ∙ (append_nil (sights n known (holding v outer) es) ∙ s.seen all known out v outer (λ y h i. before_end y (omega (arith, h)) i) n));
       within = (tt, within_append (holding v outer) es (ends here x ∷ []) (s.within v outer) (subst (λ t. AllWithin t (ends here x ∷ [])) (sym (s.state v outer)) (read_within, tt)));
       left = with_visible x here.block v;
       state = after_append (holding v outer) es (ends here x ∷ []) ∙ ap (λ r. after r (ends here x ∷ [])) (s.state v outer);

@@ -5,7 +5,7 @@ use Rattle.wesl_tree_syntax.specs.Tree.{LabelOf, ForestOf, end, tree, kind, at, 
 use Rattle.wesl_scope_occurrences.specs.Occurrences.{Block, Standing, module_name, word, Shape, of_function, of_body, of_words, of_custom, of_type, of_value, of_globals, of_other, Surroundings, Node, Declares, globally, a_parameter, a_value, node_by, after_field, referring, path_of, opens as opens_in, blocks_at, count, blocks_in, plain, occurrences_from}
 use Rattle.wesl_scope_occurrences.specs.Walk.{outermost}
 use Rattle.wesl_scope_occurrences.specs.Events.{EventOf, meets, opens, closes, Level, of_none, of_module, beginning, ending, after_level, plain_level, events_from}
-use Rattle.wesl_scope_open.proofs.Runs.{append_end, append_again, Found}
+use Rattle.wesl_scope_open.proofs.Runs.{append_again, Found}
 use Rattle.wesl_scope_open.proofs.Good.{Outwards, outwards_later, good_then}
 use Rattle.wesl_scope_open.proofs.Still.{by_numbers, IsCalm, still_good}
 use Rattle.wesl_scope_open.proofs.Around.{good_as, good_lower, around_same}
@@ -13,6 +13,7 @@ use Rattle.wesl_scope_open.proofs.Forests.{is_ident, shape_in, Seen, a_binder, a
 use Rattle.wesl_scope_open.proofs.Lively.{stand, round_in, bodied, body_fields, body_within, Lively, lively_good, tree_events, tree_found}
 use Rattle.wesl_scope_open.proofs.Functions.{found_in, header_then, header_still, header_name, Parameters, parameters_header}
 use Rattle.wesl_scope_open.proofs.Modules.{Outer, outer_then, outer_as, outer_wider, outer_none, outer_still, function_outer}
+use Rattle.wesl_scope_occurrences.proofs.Cutting.{append_nil}
 
 -- outside of functions
 abbrev pub out : Option ℕ → Bool → Bool → Surroundings Block
@@ -86,13 +87,13 @@ module _ (l : LabelOf Text) (x : Text) (a e ps ra c d0 ss : ForestOf Text) (ha :
       let g4 = still_good q b p3 p4 (suc q) (suc q) e4 o4 (omega arith) way (calm_still b ra hr h None globally (inr (refl, refl)) p3 p4 (q3 + 0) refl) in
       let g5 = still_good q b p4 p5 (suc q) (suc q) e5 o5 (omega arith) way (calm_tree_still b l c hl h (inr (refl, refl)) p4 p5 q4 refl) in
       let g6 = good_lower q b p5 p' (suc q) q5 q' e6 o6 (omega arith)
-      (good_as q b p5 p' q5 q' (tree_events of_body (body_fields d0 ss) h q5) e6 (tree_found of_body (body_fields d0 ss) h p5 q5) o6 (append_end (tree_events of_body (body_fields d0 ss) h q5)) (append_end (tree_found of_body (body_fields d0 ss) h p5 q5))
+      (good_as q b p5 p' q5 q' (tree_events of_body (body_fields d0 ss) h q5) e6 (tree_found of_body (body_fields d0 ss) h p5 q5) o6 (append_nil (tree_events of_body (body_fields d0 ss) h q5)) (append_nil (tree_found of_body (body_fields d0 ss) h p5 q5))
       (around_same q b p5 p' q5 q' (tree_events of_body (body_fields d0 ss) h q5) (tree_found of_body (body_fields d0 ss) h p5 q5) (omega arith) (outwards_later q (suc q) q5 b (omega arith) way)
       (body_within d0 ss hd (lively_good ss hs) q b [] false q [] d w u (inr (refl, refl)) p5 p' q5 q' (omega arith) (outwards_later q (suc q) q5 b (omega arith) way) (omega (arith, ep, c0, c4, c5)) (omega (arith, eq, b0, b4, b5))))) in
       let body = good_then q b p3 p4 p' (suc q) (suc q) q' e4 (e5 ++ e6) o4 (o5 ++ o6) (omega arith) g4 (good_then q b p4 p5 p' (suc q) (suc q) q' e5 e6 o5 o6 (omega arith) g5 g6) in
       outer_as p p' q q' (opens ∷ (((e1 ++ (e2 ++ e3)) ++ (e4 ++ (e5 ++ e6))) ++ closes ∷ [])) (tree_events of_function f0 (out d w u) q) ((o1 ++ (o2 ++ o3)) ++ (o4 ++ (o5 ++ o6))) (tree_found of_function f0 (out d w u) p q)
       (ap (λ y. opens ∷ (y ++ closes ∷ []))
-      (ap (λ y. e1 ++ (e2 ++ y)) (append_end (e3 ++ (e4 ++ events_from level4 q4 f4)) ∙ ap (λ y. e3 ++ (e4 ++ y)) (events_unfold l c f5 level4 q4 nl)) ∙ sym (append_again e1 (e2 ++ e3) (e4 ++ (e5 ++ e6)))))
+      (ap (λ y. e1 ++ (e2 ++ y)) (append_nil (e3 ++ (e4 ++ events_from level4 q4 f4)) ∙ ap (λ y. e3 ++ (e4 ++ y)) (events_unfold l c f5 level4 q4 nl)) ∙ sym (append_again e1 (e2 ++ e3) (e4 ++ (e5 ++ e6)))))
       (ap (λ y. o1 ++ (o2 ++ (o3 ++ (o4 ++ y)))) (occurrences_unfold l c f5 node4 p4 q4 nl) ∙ sym (append_again o1 (o2 ++ o3) (o4 ++ (o5 ++ o6))))
       (function_outer p p3 p' q q' some (e1 ++ (e2 ++ e3)) (e4 ++ (e5 ++ e6)) (o1 ++ (o2 ++ o3)) (o4 ++ (o5 ++ o6)) head body)
 
@@ -128,14 +129,14 @@ module _ (d : Option ℕ) (w u : Bool) (x : Text) (p p' q q' : ℕ) (some : 1 �
   name_outer : Outer p p' q q' (meets (by_numbers (out d w u)) module_name x ∷ (es ++ [])) (found_in module_name x p [] d u ∷ os)
   name_outer =
       outer_as p p' q q' ((meets (by_numbers (out d w u)) module_name x ∷ []) ++ es) (meets (by_numbers (out d w u)) module_name x ∷ (es ++ [])) (found_in module_name x p [] d u ∷ os) (found_in module_name x p [] d u ∷ os)
-      (ap (λ y. meets (by_numbers (out d w u)) module_name x ∷ y) (append_end es)) refl
+      (ap (λ y. meets (by_numbers (out d w u)) module_name x ∷ y) (append_nil es)) refl
       (outer_then p (suc p) p' q q q' (meets (by_numbers (out d w u)) module_name x ∷ []) es (found_in module_name x p [] d u ∷ []) os some
       (record { later = omega arith; wider = omega arith; apart = (refl, tt); runs = λ all known out own v outer none. (λ n. refl, refl, (tt, tt)) }) rest)
 
   calm_outer : (r : Standing) → IsCalm r → Outer p p' q q' (meets (by_numbers (out d w u)) r x ∷ (es ++ ending (by_numbers (out d w u)) r x)) (found_in r x p [] d u ∷ os)
   calm_outer r h =
       outer_as p p' q q' ((meets (by_numbers (out d w u)) r x ∷ []) ++ es) (meets (by_numbers (out d w u)) r x ∷ (es ++ ending (by_numbers (out d w u)) r x)) (found_in r x p [] d u ∷ os) (found_in r x p [] d u ∷ os)
-      (ap (λ y. meets (by_numbers (out d w u)) r x ∷ y) (ap (λ y. es ++ y) (no_end anything p (out d w u) (reads_any (out d w u) refl refl) x r h) ∙ append_end es)) refl
+      (ap (λ y. meets (by_numbers (out d w u)) r x ∷ y) (ap (λ y. es ++ y) (no_end anything p (out d w u) (reads_any (out d w u) refl refl) x r h) ∙ append_nil es)) refl
       (outer_then p (suc p) p' q q q' (meets (by_numbers (out d w u)) r x ∷ []) es (found_in r x p [] d u ∷ []) os some
       (outer_still anything (λ all v y. tt) p (suc p) q q (meets (by_numbers (out d w u)) r x ∷ []) (found_in r x p [] d u ∷ []) (omega arith) (met_one anything p (out d w u) (reads_any (out d w u) refl refl) x r h)) rest)
 
@@ -226,7 +227,7 @@ function_node s t f h d w u p p' q q' some ep eq =
     let c0 : count (tree (kind function) f end) ≡ count f + 0 = refl in
     let b0 : blocks_in (tree (kind function) f end) ≡ 1 + blocks_in f + 0 = refl in
     outer_as p p' q q' (tree_events of_function f (out d w u) (q + 0)) (tree_events of_other (tree (kind function) f end) (out d w u) q) (tree_found of_function f (out d w u) p (q + 0)) (tree_found of_other (tree (kind function) f end) (out d w u) p q)
-    (append_end (tree_events of_function f (out d w u) (q + 0))) (append_end (tree_found of_function f (out d w u) p (q + 0)))
+    (append_nil (tree_events of_function f (out d w u) (q + 0))) (append_nil (tree_found of_function f (out d w u) p (q + 0)))
     (outer_wider p p' p' (q + 0) q' q q' (tree_events of_function f (out d w u) (q + 0)) (tree_found of_function f (out d w u) p (q + 0)) refl (omega arith) (omega arith)
     (function_good f h d w u p p' (q + 0) q' (omega (arith, some)) (omega (arith, ep, c0)) (omega (arith, eq, b0))))
 
@@ -266,7 +267,7 @@ module _ (fi fd fg : ForestOf Text) (hi : airy fi ≡ true) (hd : airy fd ≡ tr
       let e3 = events_from (outer_level s (Some 0) globally None true) (q2 + 0) fg in
       let o3 = occurrences_from (outer_node s (Some 0) globally None) p2 (q2 + 0) fg in
       outer_as 0 p3 1 q3 (e1 ++ (e2 ++ e3)) (events_from (plain_level outermost (of_none ∷ of_none ∷ of_module ∷ [])) 1 whole) (o1 ++ (o2 ++ o3)) (occurrences_from (plain s) 0 1 whole)
-      (ap (λ y. e1 ++ (e2 ++ y)) (append_end e3)) (ap (λ y. o1 ++ (o2 ++ y)) (append_end o3))
+      (ap (λ y. e1 ++ (e2 ++ y)) (append_nil e3)) (ap (λ y. o1 ++ (o2 ++ y)) (append_nil o3))
       (outer_then 0 p1 p3 1 q1 q3 e1 (e2 ++ e3) o1 (o2 ++ o3) (omega arith) (airy_node of_other refl fi (airy_outer fi hi) None false false 0 p1 1 q1 (omega arith) refl refl)
       (outer_then p1 p2 p3 q1 q2 q3 e2 e3 o2 o3 (omega arith) (airy_node of_other refl fd (airy_outer fd hd) None false false p1 p2 q1 q2 (omega arith) refl refl)
       (outer_wider p2 p3 p3 (q2 + 0) q3 q2 q3 e3 o3 refl (omega arith) (omega arith)

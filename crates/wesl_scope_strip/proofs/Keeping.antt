@@ -21,16 +21,16 @@ use Rattle.wesl_scope_strip.specs.Steps.{IsStepOf}
 use Rattle.wesl_scope_strip.proofs.Reaching as reaching
 use Rattle.std.proofs.lemmas.Bool.{and_from, and_parts, or_right}
 
-contains_here : {A : Type 0} (x : A) (xs : List A) → Contains (x ∷ xs) x
+pub contains_here : {A : Type 0} (x : A) (xs : List A) → Contains (x ∷ xs) x
 contains_here x xs = (0, omega arith, refl)
 
-contains_later : {A : Type 0} (x m : A) (xs : List A) → Contains xs m → Contains (x ∷ xs) m
+pub contains_later : {A : Type 0} (x m : A) (xs : List A) → Contains xs m → Contains (x ∷ xs) m
 contains_later x m xs c = (suc c.0, omega (arith, c.1), c.2)
 
 contains_none : {A : Type 0} (m : A) → Contains [] m → ⊥
 contains_none m c = let l : c.0 < 0 = c.1 in omega arith
 
-contains_cases : {A : Type 0} (x m : A) (xs : List A) → Contains (x ∷ xs) m → (x ≡ m) ⊎ Contains xs m
+pub contains_cases : {A : Type 0} (x m : A) (xs : List A) → Contains (x ∷ xs) m → (x ≡ m) ⊎ Contains xs m
 contains_cases x m xs (zero, l, e) = inl e
 contains_cases x m xs (suc k, l, e) = inr (k, omega arith, e)
 
@@ -100,7 +100,7 @@ is_among (k ∷ ks) n c = by (contains_cases k n ks c) (is_among ks n)
     by (inl e) r = let t : bytes_eq k n ≡ true = (bytes_eq-Decides k n).1 e in rw t refl
     by (inr d) r = or_right (bytes_eq k n) (list_any (λ k. bytes_eq k n) ks) (r d)
 
-not_true : (b : Bool) → not b ≡ true → b ≡ false
+pub not_true : (b : Bool) → not b ≡ true → b ≡ false
 not_true true h = cc
 not_true false h = refl
 

@@ -1,6 +1,5 @@
 -- A list of nodes that get parentheses one after the other.
 use Rattle.std.proofs.Common.{◌≡◌, ◌≢◌, get_or-set_other, length-set, Bool, true, false, ℕ, zero, suc, ◌+◌, ◌<◌, ◌≤◌, List, [], ◌∷◌, ◌++◌, length, get_or, set, map, drop, take, refl, sym, ◌∙◌, ap, arith}
-use Rattle.std.proofs.lemmas.Grind.{common_steps}
 use Rattle.std.proofs.lemmas.List.{drop-set-lt, drop_more, map-append, take_all, take_more_set, with_items_is}
 use Rattle.std.specs.Prelude.{Vec}
 use Rattle.std.specs.Vec.{with_items}
@@ -10,6 +9,7 @@ use Rattle.wesl_tree_syntax.specs.View.{listed}
 use Rattle.wesl_text_guard.specs.Guards.{Guarded, as_it_is, as_item}
 use Rattle.wesl_text_guard.specs.Parentheses.{each_fits, fitted, stands_listed, with_parentheses, tree_with_parentheses}
 use Rattle.wesl_text_guard.specs.declared.guard.Guard.{Guard}
+use Rattle.wesl_tree_copies.proofs.Listed.{drop_past}
 
 -- trees, and a forest after them
 abbrev pub joined : List Tree → Forest → Forest
@@ -23,9 +23,6 @@ joined_more (u ∷ ts) t f = ap (before u) (joined_more ts t f)
 joined_all : (ts : List Tree) → joined ts end ≡ forest_of ts
 joined_all [] = refl
 joined_all (t ∷ ts) = ap (before t) (joined_all ts)
-
-drop_past : {A : Type 0} (xs : List A) (i : ℕ) → length xs ≤ i → drop i xs ≡ []
-drop_past xs i h = grind (arith, common_steps)
 
 module _ {A : Type 0} (place : Bool → Tree → Tree) (view : A → Tree) where
   -- what each becomes

@@ -14,6 +14,7 @@ use Rattle.wesl_text_reading.proofs.Filled.{no_some, of_some, no_true}
 use Rattle.wesl_text_reading.proofs.KindsAgain.{label_is}
 use Rattle.wesl_text_respell.proofs.Trees.{is_fair, rows_fair}
 use Rattle.std.proofs.lemmas.Bool.{and_from, and_parts}
+use Rattle.wesl_text_reading.proofs.Classes.{denied}
 
 -- a path alone
 abbrev pub is_path_leaf : Forest → Bool
@@ -83,10 +84,6 @@ good_comma z (Some ss) h = h
 
 all_so : (a b d : Bool) → (a && b) ≡ true → d ≡ true → (a && (b && d)) ≡ true
 all_so a b d h g = let x : (a ≡ true) × (b ≡ true) = and_parts a b h in and_from a (b && d) x.0 (and_from b d x.1 g)
-
-pub not_so : (b : Bool) → not b ≡ true → b ≡ false
-not_so true h = absurd (no_true h)
-not_so false h = refl
 
 -- ---- labels
 
@@ -226,11 +223,11 @@ module _ (l : Label) (c o : Forest) (below : RowsGood c) (separate : SeparateGoo
   tree_good (run k s row) h =
       let x : (not (same_kind k type_expression) ≡ true) × (is_fair row ≡ true) = and_parts (not (same_kind k type_expression)) (is_fair row) h in
       good_either whole (is_kind k (Some l)) (followed ((spells c).all s) ((spells o).row row)) None
-      (λ e. kind_so ((spells c).all s) ((spells o).row row) (kind_good k l c (not_so (same_kind k type_expression) x.0) e) (all s) (later row x.1)) (λ e. tt)
+      (λ e. kind_so ((spells c).all s) ((spells o).row row) (kind_good k l c (denied (same_kind k type_expression) x.0) e) (all s) (later row x.1)) (λ e. tt)
   tree_good (commas k s row) h =
       let x : (not (same_kind k type_expression) ≡ true) × (is_fair row ≡ true) = and_parts (not (same_kind k type_expression)) (is_fair row) h in
       good_either whole (is_kind k (Some l)) (followed (option_map trailing ((spells c).separate s)) ((spells o).row row)) None
-      (λ e. kind_so (option_map trailing ((spells c).separate s)) ((spells o).row row) (kind_good k l c (not_so (same_kind k type_expression) x.0) e) (good_trailing (is_good c) ((spells c).separate s) (separate s)) (later row x.1)) (λ e. tt)
+      (λ e. kind_so (option_map trailing ((spells c).separate s)) ((spells o).row row) (kind_good k l c (denied (same_kind k type_expression) x.0) e) (good_trailing (is_good c) ((spells c).separate s) (separate s)) (later row x.1)) (λ e. tt)
   tree_good (optional ins row) h =
       let x : (is_fair ins ≡ true) × (is_fair row ≡ true) = and_parts (is_fair ins) (is_fair row) h in
       good_either whole (is_kind absent (Some l) && is_end c) ((spells o).row row) (if is_kind present (Some l) then followed ((spells c).row ins) ((spells o).row row) else None)
@@ -242,7 +239,7 @@ module _ (l : Label) (c o : Forest) (below : RowsGood c) (separate : SeparateGoo
       let x : (not (same_kind k type_expression) ≡ true) × ((is_fair ins && is_fair row) ≡ true) = and_parts (not (same_kind k type_expression)) (is_fair ins && is_fair row) h in
       let y : (is_fair ins ≡ true) × (is_fair row ≡ true) = and_parts (is_fair ins) (is_fair row) x.1 in
       good_either whole (is_kind k (Some l)) (followed ((spells c).row ins) ((spells o).row row)) None
-      (λ e. kind_so ((spells c).row ins) ((spells o).row row) (kind_good k l c (not_so (same_kind k type_expression) x.0) e) (below ins y.0) (later row y.1)) (λ e. tt)
+      (λ e. kind_so ((spells c).row ins) ((spells o).row row) (kind_good k l c (denied (same_kind k type_expression) x.0) e) (below ins y.0) (later row y.1)) (λ e. tt)
   tree_good (target row) h =
       good_either whole (is_wildcard l c) (followed (Some (named (codes "_") ∷ [])) ((spells o).row row))
       (if is_tight (class_of (label_at 0 c)) && leads_to_place c then followed (first_slots l c (spells c) an_expression) ((spells o).row row) else None)

@@ -19,12 +19,12 @@ use Rattle.wesl_link_assembly.specs.Pathless.{without_paths}
 use Rattle.wesl_link_engine.specs.Worlds.{Module, tables, task_of}
 use Rattle.wesl_link_engine.specs.Linked.{Placed, unit_of, IsAssembled}
 use Rattle.wesl_link_engine.specs.Resolved.{IsAssembledOf}
-use Rattle.wesl_link_engine.proofs.Lists.{trees_of}
 use Rattle.wesl_text_laws.specs.Laws.{are_named, AreWritable, AreSaid, HasNames, LinkedAreWritable, LinkedTexts}
 use Rattle.wesl_text_laws.proofs.Good.{Good, is_good, rows_are_good}
 use Rattle.wesl_text_laws.proofs.Needed.{rows_are_named}
 use Rattle.wesl_text_laws.proofs.Shaped.{respelled_by_shape, spelled_unplaced, spelled_shape}
 use Rattle.wesl_text_laws.proofs.Modules.{directive_of, declaration_of}
+use Rattle.wesl_link_tables.proofs.Nodes.{trees-forest_of}
 
 -- ---- the parts, before names are given
 
@@ -36,11 +36,11 @@ module _ (w : List Module) (task : Task Path Text) (names : Path → Text → Te
   of_module part t x = (x.0.unit, writable x.0 x.1, x.2)
 
   directives_so : (t : TreeOf Text) → Contains (trees source.directives.children) t → IsPartOf (λ v. v.directives) t
-  directives_so t c = of_module (λ v. v.directives) t (directive_of w a.directives t a.thinned (subst (λ z. Contains z t) (trees_of a.directives) c))
+  directives_so t c = of_module (λ v. v.directives) t (directive_of w a.directives t a.thinned (subst (λ z. Contains z t) (trees-forest_of a.directives) c))
 
   declarations_so : (t : TreeOf Text) → Contains (trees source.declarations.children) t → IsPartOf (λ v. v.declarations) t
   declarations_so t c =
-      let x : (d : Placed) × Contains a.held d × (d.declaration ≡ t) = contains_map (λ (d : Placed). d.declaration) a.held t (subst (λ z. Contains z t) (trees_of (map (λ (d : Placed). d.declaration) a.held)) c) in
+      let x : (d : Placed) × Contains a.held d × (d.declaration ≡ t) = contains_map (λ (d : Placed). d.declaration) a.held t (subst (λ z. Contains z t) (trees-forest_of (map (λ (d : Placed). d.declaration) a.held)) c) in
       subst (λ z. IsPartOf (λ v. v.declarations) z) x.2 (of_module (λ v. v.declarations) x.0.declaration (declaration_of (tables w) task w a.held x.0 a.holds x.1))
 
   source_writable : IsWritable source ≡ true

@@ -22,6 +22,7 @@ use Rattle.wesl_cond_chains.proofs.Faultless.{none_before, none_after}
 use Rattle.wesl_text_left.proofs.Plain.{are_plain, plain_joined}
 use Rattle.wesl_text_left.proofs.Fine.{class, Fine, IsPlain}
 use Rattle.std.proofs.lemmas.Bool.{and_parts}
+use Rattle.wesl_text_respell.proofs.Units.{where_there}
 
 -- ---- slots that are there
 
@@ -29,10 +30,6 @@ both_there : (a b : Slots) → is_some (followed a b) ≡ true → (is_some a �
 both_there None b h = absurd (no_true h)
 both_there (Some ss) None h = absurd (no_true h)
 both_there (Some ss) (Some us) h = (refl, refl)
-
-where_there : (b : Bool) (x : Slots) → is_some (if b then x else None) ≡ true → (b ≡ true) × (is_some x ≡ true)
-where_there true x h = (refl, h)
-where_there false x h = absurd (no_true h)
 
 -- slots that are plain where they are there
 abbrev WherePlain : Slots → Type 0

@@ -146,7 +146,7 @@ component_read {s} {m} {n} {e} base made made_node x skip read builds same =
     (next (behind (λ ns us. F ns (read_leaf a_name us)) skip) (under F (λ ns. refl) read))
     builds same)
 
-after-closed : {A B C : Type 0} (r : Read A) (f : A → B) (g : List Token → Option (List Token)) (k : B → List Token → Read C) → after r (λ x us. option_and_then (λ vs. k (f x) vs) (g us)) ≡ after (after r (λ x us. option_and_then (λ vs. Some (f x, vs)) (g us))) k
+pub after-closed : {A B C : Type 0} (r : Read A) (f : A → B) (g : List Token → Option (List Token)) (k : B → List Token → Read C) → after r (λ x us. option_and_then (λ vs. k (f x) vs) (g us)) ≡ after (after r (λ x us. option_and_then (λ vs. Some (f x, vs)) (g us))) k
 after-closed None f g k = refl
 after-closed (Some x) f g k = then-one (g x.1) (f x.0) k
 

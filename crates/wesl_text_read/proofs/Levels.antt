@@ -14,6 +14,7 @@ use Rattle.wesl_text_reading.specs.FirstTokens.{behind_first, unary_first}
 use Rattle.wesl_text_reading.specs.Leaves.{Read, after, read_leaf}
 use Rattle.wesl_text_reading.specs.Reading.{any, at_level, begins_post, class_in, expression, next_operator, node_of, within_levels}
 use Rattle.wesl_text_read.specs.Levels.{bare_at, deeper, operand_at, operation_at, operations_at, post_at, posts_at, prefixed_at}
+use Rattle.wesl_text_read.proofs.Expressions.{after-closed}
 
 pub after-one : {A B C : Type 0} (r : Read A) (f : A → B) (k : B → List Token → Read C) → after r (λ x us. k (f x) us) ≡ after (after r (λ x us. Some (f x, us))) k
 after-one None f k = refl
@@ -22,10 +23,6 @@ after-one (Some x) f k = refl
 pub then-one : {B C : Type 0} (o : Option (List Token)) (x : B) (k : B → List Token → Read C) → option_and_then (λ vs. k x vs) o ≡ after (option_and_then (λ vs. Some (x, vs)) o) k
 then-one None x k = refl
 then-one (Some vs) x k = refl
-
-after-index : {A B C : Type 0} (r : Read A) (f : A → B) (g : List Token → Option (List Token)) (k : B → List Token → Read C) → after r (λ x us. option_and_then (λ vs. k (f x) vs) (g us)) ≡ after (after r (λ x us. option_and_then (λ vs. Some (f x, vs)) (g us))) k
-after-index None f g k = refl
-after-index (Some x) f g k = then-one (g x.1) (f x.0) k
 
 -- ---- levels
 
@@ -119,7 +116,7 @@ post-more n m e (name t ∷ ts) h = cc
 post-more n m e (number t ∷ ts) h = cc
 post-more n m e (symbol is.ParenLeft ∷ ts) h = cc
 post-more n m e (symbol is.ParenRight ∷ ts) h = cc
-post-more n m e (symbol is.BracketLeft ∷ ts) h = after-index (deeper n any ts) (λ i. expression (node_of (kind indexing) (before e (before i end)))) (behind_token (symbol is.BracketRight)) (λ d us. posts_at n m d us)
+post-more n m e (symbol is.BracketLeft ∷ ts) h = after-closed (deeper n any ts) (λ i. expression (node_of (kind indexing) (before e (before i end)))) (behind_token (symbol is.BracketRight)) (λ d us. posts_at n m d us)
 post-more n m e (symbol is.BracketRight ∷ ts) h = cc
 post-more n m e (symbol is.BraceLeft ∷ ts) h = cc
 post-more n m e (symbol is.BraceRight ∷ ts) h = cc

@@ -3,15 +3,13 @@ use Rattle.std.proofs.Common.{◌≡◌, ◌∙◌, ℕ, [], ◌∷◌, None, Ve
 use Rattle.wesl_tree_names.specs.Path.{Text}
 use Rattle.wesl_tree_names.specs.declared.names.Ident.{Ident}
 use Rattle.wesl_tree_syntax.specs.Tree.{TreeOf, absent, branch, call_statement, ident, leaf, reference, respell, type_expression, type_or_identifier}
-use Rattle.wesl_tree_syntax.specs.View.{assert_view, attributes_tree, call_view, declaration_view, expression_tree, statement_view}
+use Rattle.wesl_tree_syntax.specs.View.{attributes_tree, call_view, expression_tree, statement_view}
 use Rattle.wesl_tree_syntax.specs.declared.attribute.Attribute.{Attribute}
-use Rattle.wesl_tree_syntax.specs.declared.declaration.ConstAssert.{ConstAssert}
-use Rattle.wesl_tree_syntax.specs.declared.declaration.Declaration.{Declaration as Variable}
 use Rattle.wesl_tree_syntax.specs.declared.expression.Expression.{Expression, TypeOrIdentifier}
 use Rattle.wesl_tree_syntax.specs.declared.expression.TypeExpression.{roll-TypeExpression}
 use Rattle.wesl_tree_syntax.specs.declared.expression.FunctionCall.{FunctionCall as Call}
 use Rattle.wesl_tree_syntax.specs.declared.span.Spanned.{Spanned}
-use Rattle.wesl_tree_syntax.specs.declared.statement.Statement.{the_lemmas, ConstAssert as Assertion, Declaration, FunctionCall}
+use Rattle.wesl_tree_syntax.specs.declared.statement.Statement.{the_lemmas, FunctionCall}
 use Rattle.wesl_text_reading.specs.Reading.{expression}
 use Rattle.wesl_text_read.proofs.Trees.{made_type, placed-tree}
 use Rattle.wesl_tree_syntax.proofs.Views.{view_name}
@@ -21,12 +19,6 @@ Attributes = Vec (Spanned Attribute) Global
 
 pub view-call : (a : Attributes) (c : Call) → statement_view (FunctionCall a c) ≡ branch call_statement (attributes_tree a ∷ call_view c ∷ [])
 view-call a c = search (rules, the_lemmas)
-
-pub view-assertion : (c : ConstAssert) → statement_view (Assertion c) ≡ assert_view c
-view-assertion c = search (rules, the_lemmas)
-
-pub view-declaration : (d : Variable) → statement_view (Declaration d) ≡ declaration_view d
-view-declaration d = search (rules, the_lemmas)
 
 -- ---- `_`
 

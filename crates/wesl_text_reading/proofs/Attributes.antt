@@ -20,8 +20,8 @@ use Rattle.wesl_text_reading.proofs.Within.{Within, within_below}
 use Rattle.wesl_text_reading.proofs.RowReads.{Rest, RowOk, row_reads, joined}
 use Rattle.wesl_text_reading.proofs.KindsAgain.{label_is, end_is}
 use Rattle.wesl_text_reading.proofs.Types.{must_first}
-use Rattle.wesl_text_reading.proofs.Chains.{row_token}
-use Rattle.wesl_text_reading.proofs.Operands.{Ended, InRows, in_rows, nothing_left, own_first, leaf_first, row_optional, begins_one}
+use Rattle.wesl_text_reading.proofs.Chains.{nothing_row, row_token}
+use Rattle.wesl_text_reading.proofs.Operands.{Ended, InRows, in_rows, own_first, leaf_first, row_optional, begins_one}
 use Rattle.wesl_text_reading.proofs.Complete.{ReadsSort, node_from, list_of_expressions}
 use Rattle.std.proofs.lemmas.Bool.{and_parts}
 
@@ -245,12 +245,12 @@ module _ (child : Sort → Reader) (n : ℕ) where
     last_ok = (
       (λ vs rest. closing_stays rest.0 vs rest.1 rest.2),
       (λ f ts vs h w rest. more_begins f ts vs h),
-      ((λ l c ts vs g u rest. exprs l c ts vs g u (subst Ended (turned (nothing_left rest.0 vs rest.1 rest.2).1) (closing_ends rest.4.0 rest.1 rest.4.1 rest.4.2))), tt),
+      ((λ l c ts vs g u rest. exprs l c ts vs g u (subst Ended (turned (nothing_row rest.0 vs rest.1 rest.2).1) (closing_ends rest.4.0 rest.1 rest.4.1 rest.4.2))), tt),
       tt,
     )
 
     more_ok : RowOk child (read_part child) n (Rest child (read_part child) n Always (optional one_more closing_row)) one_more
-    more_ok = ((λ l c ts vs g u rest. exprs l c ts vs g u (subst Ended (turned (nothing_left rest.0 vs rest.1 rest.2).1) (more_ends rest.4.0 closing_row rest.1 rest.4.1 (λ g h. closing_ends g rest.1 rest.4.1 h) rest.4.2))), tt)
+    more_ok = ((λ l c ts vs g u rest. exprs l c ts vs g u (subst Ended (turned (nothing_row rest.0 vs rest.1 rest.2).1) (more_ends rest.4.0 closing_row rest.1 rest.4.1 (λ g h. closing_ends g rest.1 rest.4.1 h) rest.4.2))), tt)
 
     -- two further operands, of which the second stands only behind the first
     sizes_read : (o : Forest) (ts us : List Token) → fill ((spells o).row (optional one_more (optional one_more closing_row))) ts ≡ Some us → (not (is_kind absent (label_at 0 o)) || is_kind absent (label_at 1 o)) ≡ true → Within n o
@@ -340,7 +340,7 @@ module _ (child : Sort → Reader) (n : ℕ) where
     custom_ok = (
       (λ l o ts vs us h g cu. (custom_reads l o ts vs h).3),
       (
-        (λ vs rest. ap (λ z. begins_sign is.ParenLeft z) (nothing_left rest.0 vs rest.1 rest.2).1 ∙ rest.4),
+        (λ vs rest. ap (λ z. begins_sign is.ParenLeft z) (nothing_row rest.0 vs rest.1 rest.2).1 ∙ rest.4),
         (λ f ts vs h w rest. ap (λ z. begins_sign is.ParenLeft z) (row_token f is.ParenLeft (commas list an_expression (sym is.ParenRight nothing)) ts vs h).1),
         ((λ g ts vs h w rest. let x : (ws : List Token) × (vs ≡ symbol is.ParenRight ∷ ws) × (fill ((spells rest.0).row nothing) ws ≡ Some rest.1) = row_token rest.0 is.ParenRight nothing vs rest.1 rest.2 in list_of_expressions child n exprs g ts vs x.0 h w x.1), tt),
         tt,
@@ -367,7 +367,7 @@ module _ (child : Sort → Reader) (n : ℕ) where
       at : (((is_kind absent (Some m) && is_end d) ≡ true) × (fill ((spells p).row nothing) ts ≡ Some us)) ⊎ (((is_kind absent (Some m) && is_end d) ≡ false) × (fill (if is_kind present (Some m) then followed ((spells d).row operands_row) ((spells p).row nothing) else None) ts ≡ Some us)) → read_row child (read_part child) (optional operands_row nothing) ts ≡ Some (tree m d p, us)
       at (inl x) =
           let y : (is_kind absent (Some m) ≡ true) × (is_end d ≡ true) = and_parts (is_kind absent (Some m)) (is_end d) x.0 in
-          let q : tree m d p ≡ tree (kind absent) end end = ap (λ z. tree z d p) (label_is absent m y.0) ∙ (ap (λ z. tree (kind absent) z p) (end_is d y.1) ∙ ap (λ z. tree (kind absent) end z) (nothing_left p ts us x.1).0) in
+          let q : tree m d p ≡ tree (kind absent) end end = ap (λ z. tree z d p) (label_is absent m y.0) ∙ (ap (λ z. tree (kind absent) z p) (end_is d y.1) ∙ ap (λ z. tree (kind absent) end z) (nothing_row p ts us x.1).0) in
           absurd (no_true (turned f ∙ ap (λ z. lacks_operands (tree l end z)) q))
       at (inr x) =
           let y : (is_kind present (Some m) ≡ true) × (fill (followed ((spells d).row operands_row) ((spells p).row nothing)) ts ≡ Some us) = where_true (is_kind present (Some m)) (followed ((spells d).row operands_row) ((spells p).row nothing)) ts us x.1 in
@@ -378,7 +378,7 @@ module _ (child : Sort → Reader) (n : ℕ) where
           ]) (ap (λ a. begins_sign is.ParenLeft a) (row_token d is.ParenLeft (commas list an_expression (sym is.ParenRight nothing)) ts z.0 z.1).1)
           ∙ (joined (λ f. node_of (kind present) f) (read_row child (read_part child) operands_row ts) d z.0 (read_row child (read_part child) nothing) p us
           (row_reads child (read_part child) n d operands_row Always operands_ok ts z.0 z.1 (within_below m d p n w) tt)
-          (ap (λ a. Some (a, z.0)) (turned (nothing_left p z.0 us z.2).0) ∙ ap (λ a. Some (p, a)) (nothing_left p z.0 us z.2).1)
+          (ap (λ a. Some (a, z.0)) (turned (nothing_row p z.0 us z.2).0) ∙ ap (λ a. Some (p, a)) (nothing_row p z.0 us z.2).1)
           ∙ ap (λ a. Some (tree a d p, us)) (turned (label_is present m y.0)))
 
     with_operands : (c : Forest) (ts us : List Token) → fill ((spells c).row custom_row) ts ≡ Some us → Within n c → lacks_operands c ≡ false → read_row child (read_part child) custom_row ts ≡ Some (c, us)

@@ -11,8 +11,8 @@ use Rattle.wesl_text_reading.proofs.Filled.{no_some, fill, parts}
 use Rattle.wesl_text_reading.proofs.Takes.{chosen, where_true}
 use Rattle.wesl_text_reading.proofs.Within.{Within, within_below}
 use Rattle.wesl_text_reading.proofs.RowReads.{Rest, RowOk, row_reads}
-use Rattle.wesl_text_reading.proofs.Chains.{row_token}
-use Rattle.wesl_text_reading.proofs.Operands.{Ended, own_first, nothing_left}
+use Rattle.wesl_text_reading.proofs.Chains.{nothing_row, row_token}
+use Rattle.wesl_text_reading.proofs.Operands.{Ended, own_first}
 use Rattle.wesl_text_reading.proofs.Complete.{ReadsSort, node_by}
 use Rattle.wesl_text_reading.proofs.Runs.{Unopened}
 use Rattle.wesl_text_reading.proofs.Worded.{attrs_ok, worded_ok, run_reads}
@@ -57,7 +57,7 @@ module _ (child lower : Sort → Reader) (n : ℕ) (one_attribute : ReadsSort ch
   -- the statements of a loop
   pub block_reads : (c : Forest) (ts vs : List Token) → fill ((spells c).row (attrs (block_row nothing))) ts ≡ Some vs → Within n c → Stopped child lower vs → read_row child (read_part child) (attrs (block_row nothing)) ts ≡ Some (c, vs)
   block_reads c ts vs h w s =
-      row_reads child (read_part child) n c (attrs (block_row nothing)) (Stopped child lower) (block_ok (Stopped child lower) nothing (λ f vs us g k. subst (Stopped child lower) (turned (nothing_left f vs us g).1) k) tt) ts vs h w s
+      row_reads child (read_part child) n c (attrs (block_row nothing)) (Stopped child lower) (block_ok (Stopped child lower) nothing (λ f vs us g k. subst (Stopped child lower) (turned (nothing_row f vs us g).1) k) tt) ts vs h w s
 
 -- ---- what ends the statements of a loop
 

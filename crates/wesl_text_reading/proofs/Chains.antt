@@ -250,7 +250,7 @@ binary_is : (b : Label) → is_binary b ≡ true → (o : BinaryOperator) × (b 
 binary_is (binary o) h = (o, refl)
 binary_is b h = absurd (no_true h)
 
-nothing_row : (o : Forest) (ts us : List Token) → fill ((spells o).row nothing) ts ≡ Some us → (o ≡ end) × (ts ≡ us)
+pub nothing_row : (o : Forest) (ts us : List Token) → fill ((spells o).row nothing) ts ≡ Some us → (o ≡ end) × (ts ≡ us)
 nothing_row end ts us h = (refl, of_some ts us h)
 nothing_row (tree l c o) ts us h = absurd (no_some us h)
 

@@ -83,7 +83,7 @@ alone_is (t ∷ ts) vs h = at (same_token (name (codes "default")) t) refl h whe
   at true e g = inl (ap (λ z. z ∷ ts) (turned (same_is (name (codes "default")) t e)) ∙ ap (λ z. name (codes "default") ∷ z) (of_some ts vs g))
   at false e g = later (same_token (name (codes "case")) t && comes_first (name (codes "default")) ts) refl g
 
-lone_is : (child : Sort → Reader) (c : Forest) → is_lone_default c ≡ true → c ≡ lone_default child
+pub lone_is : (child : Sort → Reader) (c : Forest) → is_lone_default c ≡ true → c ≡ lone_default child
 lone_is child (tree (kind default_case) end end) h = refl
 lone_is child c h = absurd (no_true h)
 

@@ -20,8 +20,8 @@ use Rattle.wesl_text_reading.proofs.Within.{Within, within_below, levels_at_most
 use Rattle.wesl_text_reading.proofs.RowReads.{Rest, RowOk, row_reads}
 use Rattle.wesl_text_reading.proofs.Loops.{separate_reads}
 use Rattle.wesl_text_reading.proofs.Types.{no_step, path_reads}
-use Rattle.wesl_text_reading.proofs.Chains.{Ends, Closes, ReadsExpressions, class_below, expression_parts, row_token, is_base, whole_reads}
-use Rattle.wesl_text_reading.proofs.Operands.{InRows, in_rows, Ended, ident_reads, row_opens, row_closes, row_optional, leaf_first, own_first, nothing_left, type_row, call_row, type_label, call_label, argument_label, BeginsType, path_begins_word, type_begins, literal_token, begins_one}
+use Rattle.wesl_text_reading.proofs.Chains.{Closes, Ends, ReadsExpressions, class_below, expression_parts, is_base, nothing_row, row_token, whole_reads}
+use Rattle.wesl_text_reading.proofs.Operands.{InRows, in_rows, Ended, ident_reads, row_opens, row_closes, row_optional, leaf_first, own_first, type_row, call_row, type_label, call_label, argument_label, BeginsType, path_begins_word, type_begins, literal_token, begins_one}
 
 -- a node is read where its label is found and its row is read
 pub node_from : (child : Sort → Reader) (s : Sort) (l : Label) (c : Forest) (r : Row) (ts us : List Token) → row_of s l ≡ Some r → (fits l c && stands_as s l c) ≡ true → label_first child s ts ≡ Some l → read_row child (read_part child) r ts ≡ Some (c, us) → node child s ts ≡ Some (node_of l c, us)
@@ -51,7 +51,7 @@ module _ (child : Sort → Reader) (n : ℕ) where
   pub argument_reads : ReadsSort an_expression Ended (child an_expression) → ReadsSort an_argument Ended (node child an_argument)
   argument_reads exprs l c ts us h w e =
       node_by child n an_argument l (kind template_argument) c (own an_expression nothing) Ended ts us h refl (argument_label l)
-      ((λ l c ts vs g v rest. exprs l c ts vs g v (subst Ended (turned (nothing_left rest.0 vs rest.1 rest.2).1) rest.4)), tt) (within_under l c w) e
+      ((λ l c ts vs g v rest. exprs l c ts vs g v (subst Ended (turned (nothing_row rest.0 vs rest.1 rest.2).1) rest.4)), tt) (within_under l c w) e
 
   argument_begins : (l : Label) (c : Forest) (ts us : List Token) → fill (first_slots l c (spells c) an_argument) ts ≡ Some us → begins_expression ts ≡ true
   argument_begins l c ts us h =
@@ -64,7 +64,7 @@ module _ (child : Sort → Reader) (n : ℕ) where
   behind_ident : (o : Forest) (vs us : List Token) → fill ((spells o).row (optional (opens (commas list an_argument (closes nothing))) nothing)) vs ≡ Some us → Ends us → begins_sign is.ColonColon vs ≡ false
   behind_ident o vs us h e = by (row_optional o (opens (commas list an_argument (closes nothing))) nothing vs us h) where
     by : ((g : Forest) × (fill ((spells g).row nothing) vs ≡ Some us)) ⊎ ((d : Forest) × (g : Forest) × (ws : List Token) × (fill ((spells d).row (opens (commas list an_argument (closes nothing)))) vs ≡ Some ws) × (fill ((spells g).row nothing) ws ≡ Some us)) → begins_sign is.ColonColon vs ≡ false
-    by (inl x) = ap (λ z. begins_sign is.ColonColon z) (nothing_left x.0 vs us x.1).1 ∙ e.1
+    by (inl x) = ap (λ z. begins_sign is.ColonColon z) (nothing_row x.0 vs us x.1).1 ∙ e.1
     by (inr x) = ap (λ z. begins_sign is.ColonColon z) (row_opens x.0 (commas list an_argument (closes nothing)) vs x.2 x.3).1
 
   -- the row of an identifier with its list
@@ -83,11 +83,11 @@ module _ (child : Sort → Reader) (n : ℕ) where
   type_ok args = (
     (λ vs rest. (no_path vs rest).0),
     (λ f ts vs h w rest. let x : (l : Label) × (o : Forest) × (ws : List Token) × (fill (leaf_slots (a_path false) l o) ts ≡ Some ws) × (fill ((spells o).row nothing) ws ≡ Some vs) = leaf_first f (a_path false) nothing ts vs h in (path_begins_word x.0 x.1 ts x.2 x.3).1),
-    ((λ l o ts vs us h g rest. path_reads l o ts vs h (ap no_step (nothing_left o vs us g).1 ∙ (no_path us rest).1)), tt),
+    ((λ l o ts vs us h g rest. path_reads l o ts vs h (ap no_step (nothing_row o vs us g).1 ∙ (no_path us rest).1)), tt),
     (
       ident_is,
       (
-        (λ vs rest. ap (λ z. comes_first open_list z) (nothing_left rest.0 vs rest.1 rest.2).1 ∙ rest.4.0),
+        (λ vs rest. ap (λ z. comes_first open_list z) (nothing_row rest.0 vs rest.1 rest.2).1 ∙ rest.4.0),
         (λ f ts vs h w rest. ap (λ z. comes_first open_list z) (row_opens f (commas list an_argument (closes nothing)) ts vs h).1),
         ((λ g ts vs h w rest. let x : (ws : List Token) × (vs ≡ close_list ∷ ws) × (fill ((spells rest.0).row nothing) ws ≡ Some rest.1) = row_closes rest.0 nothing vs rest.1 rest.2 in list_is g ts vs h w (x.0, x.1)), tt),
         tt,
@@ -179,14 +179,14 @@ module _ (child : Sort → Reader) (n : ℕ) where
     operand_of_row k c r ts us o f h s w e (inr (inr (inr (inr (inr (inl q)))))) =
         let g : fill ((spells c).row (own a_type nothing)) ts ≡ Some us = subst (λ z. fill ((spells c).row z) ts ≡ Some us) (turned q.1) h in
         let y : (j : Label) × (d : Forest) × (x : Forest) × (vs : List Token) × (c ≡ tree j d x) × (fill (first_slots j d (spells d) a_type) ts ≡ Some vs) × (fill ((spells x).row nothing) vs ≡ Some us) = own_first c a_type nothing ts us g in
-        let m : y.3 ≡ us = (nothing_left y.2 y.3 us y.6).1 in
+        let m : y.3 ≡ us = (nothing_row y.2 y.3 us y.6).1 in
         let v : Within n (tree y.0 y.1 y.2) = subst (λ z. Within n z) y.4 w in
         let a : child a_type ts ≡ Some (node_of y.0 y.1, y.3) = types y.0 y.1 ts y.3 y.5 (v.0, tt) (subst Ends (turned m) e.0) in
         let b : (unary_first ts ≡ None) × (operand_label ts y.3 ≡ Some (kind type_or_identifier)) = word_label ts y.3 (type_begins y.0 y.1 ts y.3 y.5) false (ap (λ z. begins_sign is.ParenLeft z) m ∙ e.1) in (
           b.0,
           node_from child a_bare_expression (kind k) c (own a_type nothing) ts us (o ∙ ap (λ z. Some z) (turned q.1)) f
               (ap (λ z. operand_label ts z) (behind_type ts y.3 (node_of y.0 y.1) a) ∙ (b.1 ∙ ap (λ z. Some (kind z)) (turned q.0)))
-              (row_reads child (read_part child) n c (own a_type nothing) Ends ((λ l c ts vs g v rest. types l c ts vs g v (subst Ends (turned (nothing_left rest.0 vs rest.1 rest.2).1) rest.4)), tt) ts us g w e.0),
+              (row_reads child (read_part child) n c (own a_type nothing) Ends ((λ l c ts vs g v rest. types l c ts vs g v (subst Ends (turned (nothing_row rest.0 vs rest.1 rest.2).1) rest.4)), tt) ts us g w e.0),
         )
     operand_of_row k c r ts us o f h s w e (inr (inr (inr (inr (inr (inr q)))))) = absurd q
 

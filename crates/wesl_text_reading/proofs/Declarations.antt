@@ -16,8 +16,8 @@ use Rattle.wesl_text_reading.proofs.KindsAgain.{kind_is}
 use Rattle.wesl_text_reading.proofs.Within.{Within, within_below}
 use Rattle.wesl_text_reading.proofs.RowReads.{RowOk, row_reads}
 use Rattle.wesl_text_reading.proofs.Loops.{separate_reads}
-use Rattle.wesl_text_reading.proofs.Chains.{Ends, row_token}
-use Rattle.wesl_text_reading.proofs.Operands.{InRows, in_rows, Ended, own_first, leaf_first, nothing_left, row_optional, BeginsType, type_begins}
+use Rattle.wesl_text_reading.proofs.Chains.{Ends, nothing_row, row_token}
+use Rattle.wesl_text_reading.proofs.Operands.{InRows, in_rows, Ended, own_first, leaf_first, row_optional, BeginsType, type_begins}
 use Rattle.wesl_text_reading.proofs.Complete.{ReadsSort, node_from, node_by}
 use Rattle.wesl_text_reading.proofs.Runs.{Unopened, Named, attributes_read, binder_reads, name_reads, parameter_is, member_is, spanned_member_is}
 use Rattle.wesl_text_reading.proofs.KindsRead.{NoList}
@@ -182,7 +182,7 @@ module _ (child : Sort → Reader) (n : ℕ) (one_attribute : ReadsSort child n 
   result_ok = (
     (λ vs more. (own_body_apart more.0 nothing vs more.1 more.2).0),
     (λ f ts vs h w more. ap begins_name (own_type_first f nothing ts vs h).2),
-    ((λ l c ts vs g v more. types l c ts vs g v (subst Ends (turned (nothing_left more.0 vs more.1 more.2).1) (own_body_ended more.4.0 nothing more.1 more.4.1 more.4.2).1.0)), tt),
+    ((λ l c ts vs g v more. types l c ts vs g v (subst Ends (turned (nothing_row more.0 vs more.1 more.2).1) (own_body_ended more.4.0 nothing more.1 more.4.1 more.4.2).1.0)), tt),
     ((λ l c ts vs g v more. bodies l c ts vs g v tt), tt),
   )
 

@@ -13,8 +13,8 @@ use Rattle.wesl_text_reading.proofs.Takes.{chosen, where_true}
 use Rattle.wesl_text_reading.proofs.KindsAgain.{label_is, end_is}
 use Rattle.wesl_text_reading.proofs.Within.{Within, within_below}
 use Rattle.wesl_text_reading.proofs.RowReads.{joined, row_reads}
-use Rattle.wesl_text_reading.proofs.Chains.{Ends, row_token}
-use Rattle.wesl_text_reading.proofs.Operands.{Ended, own_first, nothing_left, begins_one}
+use Rattle.wesl_text_reading.proofs.Chains.{Ends, nothing_row, row_token}
+use Rattle.wesl_text_reading.proofs.Operands.{Ended, own_first, begins_one}
 use Rattle.wesl_text_reading.proofs.Complete.{ReadsSort}
 use Rattle.wesl_text_reading.proofs.Attributes.{row_word}
 use Rattle.wesl_text_reading.proofs.Runs.{Unopened, attributes_read}
@@ -89,7 +89,7 @@ module _ (child : Sort → Reader) (n : ℕ) (one_attribute : ReadsSort child n 
   one_part end ts vs h w s t = absurd (no_some vs h)
   one_part (tree j d p) ts vs h w s t =
       let x : (ws : List Token) × (fill (option_map without_last (first_slots j d (spells d) a_statement)) ts ≡ Some ws) × (fill ((spells p).row nothing) ws ≡ Some vs) = parts (option_map without_last (first_slots j d (spells d) a_statement)) ((spells p).row nothing) ts vs h in
-      let q : (p ≡ end) × (x.0 ≡ vs) = nothing_left p x.0 vs x.2 in
+      let q : (p ≡ end) × (x.0 ≡ vs) = nothing_row p x.0 vs x.2 in
       let r : (begins_part ts ≡ true) × (read_part child a_statement ts ≡ Some (node_of j d, vs)) = part_reads child n parted exprs kinds types calls j d ts vs (subst (λ z. fill (option_map without_last (first_slots j d (spells d) a_statement)) ts ≡ Some z) q.1 x.1) (w.0, tt) s t in
       (r.0, joined (λ z. z) (read_part child a_statement ts) (node_of j d) vs (read_row child (read_part child) nothing) end vs r.1 refl ∙ ap (λ z. Some (tree j d z, vs)) (turned q.0))
 
@@ -116,7 +116,7 @@ module _ (child : Sort → Reader) (n : ℕ) (one_attribute : ReadsSort child n 
       option_reads (own an_expression nothing) behind_middle l c o ts us h (λ g. (ap begins_expression (row_token o is.Semicolon last_part ts us g).1, behind ts g)) (λ vs e g k.
       let y : (j : Label) × (d : Forest) × (x : Forest) × (ws : List Token) × (c ≡ tree j d x) × (fill (first_slots j d (spells d) an_expression) ts ≡ Some ws) × (fill ((spells x).row nothing) ws ≡ Some vs) = own_first c an_expression nothing ts vs g in (
         begins_one y.0 y.1 ts y.3 y.5,
-        row_reads child (read_part child) n c (own an_expression nothing) Ended ((λ l c ts vs g v more. exprs l c ts vs g v (subst Ended (turned (nothing_left more.0 vs more.1 more.2).1) more.4)), tt) ts vs g (within_below l c o n w) (semicolon_ended o last_part vs us k),
+        row_reads child (read_part child) n c (own an_expression nothing) Ended ((λ l c ts vs g v more. exprs l c ts vs g v (subst Ended (turned (nothing_row more.0 vs more.1 more.2).1) more.4)), tt) ts vs g (within_below l c o n w) (semicolon_ended o last_part vs us k),
         behind vs k,
       )) where
         behind : (vs : List Token) → fill ((spells o).row behind_middle) vs ≡ Some us → read_row child (read_part child) behind_middle vs ≡ Some (o, us)

@@ -20,8 +20,8 @@ use Rattle.wesl_text_reading.proofs.Classes.{denied}
 use Rattle.wesl_text_reading.proofs.KindsAgain.{kind_is}
 use Rattle.wesl_text_reading.proofs.Within.{Within, within_below}
 use Rattle.wesl_text_reading.proofs.RowReads.{RowOk}
-use Rattle.wesl_text_reading.proofs.Chains.{Ends}
-use Rattle.wesl_text_reading.proofs.Operands.{Ended, nothing_left}
+use Rattle.wesl_text_reading.proofs.Chains.{Ends, nothing_row}
+use Rattle.wesl_text_reading.proofs.Operands.{Ended}
 use Rattle.wesl_text_reading.proofs.Complete.{ReadsSort}
 use Rattle.wesl_text_reading.proofs.KindsRead.{NoList}
 use Rattle.wesl_text_reading.proofs.Targets.{ReadsParted}
@@ -47,11 +47,11 @@ none_behind : (ss : List Slot) → ss ++ [] ≡ ss
 none_behind [] = refl
 none_behind (s ∷ ss) = ap (λ z. s ∷ z) (none_behind ss)
 
-alone_again : (o : Slots) → followed o (Some []) ≡ o
+pub alone_again : (o : Slots) → followed o (Some []) ≡ o
 alone_again None = refl
 alone_again (Some ss) = ap (λ z. Some z) (none_behind ss)
 
-no_slots : (o : Slots) → followed o None ≡ None
+pub no_slots : (o : Slots) → followed o None ≡ None
 no_slots None = refl
 no_slots (Some ss) = refl
 
@@ -114,7 +114,7 @@ module _ (child : Sort → Reader) (n : ℕ) (parted : ReadsParted child n (chil
 
   -- what ends a part
   tail_none : (f : Forest) (vs us : List Token) → fill ((spells f).row nothing) vs ≡ Some us → Tail us → Tail vs
-  tail_none f vs us g c = subst Tail (turned (nothing_left f vs us g).1) c
+  tail_none f vs us g c = subst Tail (turned (nothing_row f vs us g).1) c
 
   -- a target, a symbol and what is behind it, without `;`
   target_part : (j : Label) (d : Forest) (s : Symbol) (rest last : Row) (ts us : List Token) → row_of a_bare_statement j ≡ Some (attrs (own an_expression (sym s last))) → ends_with (attrs (own an_expression (sym s last))) ≡ true → without_end child (sym s last) ≡ sym s rest → is_simple (Some j) ≡ true

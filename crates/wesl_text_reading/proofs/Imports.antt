@@ -21,8 +21,8 @@ use Rattle.wesl_text_reading.proofs.Within.{Within, within_below}
 use Rattle.wesl_text_reading.proofs.RowReads.{RowOk, row_reads}
 use Rattle.wesl_text_reading.proofs.Loops.{separate_reads}
 use Rattle.wesl_text_reading.proofs.Types.{must_first, no_step, steps_read, free_is, supers_read, up_one, names_free, origin_word, origin_rest, path_tokens}
-use Rattle.wesl_text_reading.proofs.Chains.{row_token}
-use Rattle.wesl_text_reading.proofs.Operands.{InRows, in_rows, only_row, row_optional, leaf_first, own_first, nothing_left}
+use Rattle.wesl_text_reading.proofs.Chains.{nothing_row, row_token}
+use Rattle.wesl_text_reading.proofs.Operands.{InRows, in_rows, only_row, row_optional, leaf_first, own_first}
 use Rattle.wesl_text_reading.proofs.Complete.{ReadsSort, node_from, node_by}
 use Rattle.wesl_text_reading.proofs.Attributes.{with_between, between_again, cut_filled, row_word}
 use Rattle.wesl_text_reading.proofs.Runs.{Unopened, Named, binder_reads, attributes_at}
@@ -126,7 +126,7 @@ role_same (tree l c o) vs us h e = by (chosen (is_kind absent (Some l) && is_end
   by : (((is_kind absent (Some l) && is_end c) ≡ true) × (fill ((spells o).row nothing) vs ≡ Some us)) ⊎ (((is_kind absent (Some l) && is_end c) ≡ false) × (fill (if is_kind present (Some l) then followed ((spells c).row as_row) ((spells o).row nothing) else None) vs ≡ Some us)) → item_role_by vs ≡ item_role (tree l c o)
   by (inl x) =
       let y : is_kind absent (Some l) ≡ true = (and_parts (is_kind absent (Some l)) (is_end c) x.0).0 in
-      ap item_role_by (nothing_left o vs us x.1).1 ∙ (ap (λ b. if b then word else binder) e.0 ∙ ap (λ b. if b then binder else word) (turned y))
+      ap item_role_by (nothing_row o vs us x.1).1 ∙ (ap (λ b. if b then word else binder) e.0 ∙ ap (λ b. if b then binder else word) (turned y))
   by (inr x) =
       let y : (is_kind present (Some l) ≡ true) × (fill (followed ((spells c).row as_row) ((spells o).row nothing)) vs ≡ Some us) = where_true (is_kind present (Some l)) (followed ((spells c).row as_row) ((spells o).row nothing)) vs us x.1 in
       let z : (ws : List Token) × (fill ((spells c).row as_row) vs ≡ Some ws) × (fill ((spells o).row nothing) ws ≡ Some us) = parts ((spells c).row as_row) ((spells o).row nothing) vs us y.1 in
@@ -148,7 +148,7 @@ item_reads l o ts vs us h g e = absurd (no_some vs h)
 item_stops : (o : Forest) (vs us : List Token) → fill ((spells o).row (optional as_row nothing)) vs ≡ Some us → Behind us → (begins_sign is.ColonColon vs ≡ false) × (begins_sign is.Slash vs ≡ false)
 item_stops o vs us h e = by (row_optional o as_row nothing vs us h) where
   by : ((g : Forest) × (fill ((spells g).row nothing) vs ≡ Some us)) ⊎ ((d : Forest) × (g : Forest) × (ws : List Token) × (fill ((spells d).row as_row) vs ≡ Some ws) × (fill ((spells g).row nothing) ws ≡ Some us)) → (begins_sign is.ColonColon vs ≡ false) × (begins_sign is.Slash vs ≡ false)
-  by (inl x) = let q : vs ≡ us = (nothing_left x.0 vs us x.1).1 in (ap (λ z. begins_sign is.ColonColon z) q ∙ e.1, ap (λ z. begins_sign is.Slash z) q ∙ e.2)
+  by (inl x) = let q : vs ≡ us = (nothing_row x.0 vs us x.1).1 in (ap (λ z. begins_sign is.ColonColon z) q ∙ e.1, ap (λ z. begins_sign is.Slash z) q ∙ e.2)
   by (inr x) = let y : (ws : List Token) × (vs ≡ name (codes "as") ∷ ws) × (fill ((spells x.0).row (leaf (an_ident binder) nothing)) ws ≡ Some x.2) = row_word x.0 (codes "as") (leaf (an_ident binder) nothing) vs x.2 x.3 in
       (ap (λ z. begins_sign is.ColonColon z) y.1, ap (λ z. begins_sign is.Slash z) y.1)
 
@@ -223,8 +223,8 @@ module _ (child : Sort → Reader) (n : ℕ) where
   entry_reads : ReadsSort child n a_content Behind (child a_content) → (l : Label) (c : Forest) (ts us : List Token) → fill (first_slots l c (spells c) an_entry) ts ≡ Some us → Within n c → Behind us → node child an_entry ts ≡ Some (node_of l c, us)
   entry_reads contents l c ts us h w e =
       node_by child n an_entry l (kind import_entry) c entry_row Behind ts us h refl (entry_is l) (
-        (λ l o ts vs us h g b. (steps_reads l o ts vs h).1 ((behind_steps o nothing vs us g).1 (λ g ws q. subst Behind (turned (nothing_left g ws us q).1) b)).0),
-        ((λ l c ts vs g v rest. contents l c ts vs g v (subst Behind (turned (nothing_left rest.0 vs rest.1 rest.2).1) rest.4)), tt),
+        (λ l o ts vs us h g b. (steps_reads l o ts vs h).1 ((behind_steps o nothing vs us g).1 (λ g ws q. subst Behind (turned (nothing_row g ws us q).1) b)).0),
+        ((λ l c ts vs g v rest. contents l c ts vs g v (subst Behind (turned (nothing_row rest.0 vs rest.1 rest.2).1) rest.4)), tt),
       ) w e
 
   module _ (entries : ReadsSort child n an_entry Behind (child an_entry)) where
@@ -232,7 +232,7 @@ module _ (child : Sort → Reader) (n : ℕ) where
     item_ok = (
       (λ l o ts vs us h g e. (item_reads l o ts vs us h g e).1),
       (
-        (λ vs rest. ap (λ z. begins_word (codes "as") z) (nothing_left rest.0 vs rest.1 rest.2).1 ∙ rest.4.0),
+        (λ vs rest. ap (λ z. begins_word (codes "as") z) (nothing_row rest.0 vs rest.1 rest.2).1 ∙ rest.4.0),
         (λ f ts vs h w rest. ap (λ z. begins_word (codes "as") z) (row_word f (codes "as") (leaf (an_ident binder) nothing) ts vs h).1),
         ((λ l o ts vs us h g e. (binder_reads l o ts vs h).1), tt),
         tt,
@@ -297,8 +297,8 @@ module _ (child : Sort → Reader) (n : ℕ) where
   import_ok contents = (
     (λ vs rest. (brought_stops rest.0 vs rest.1 rest.2).1),
     (λ f ts vs h w rest. let x : (l : Label) × (o : Forest) × (ws : List Token) × (fill (leaf_slots (a_path true) l o) ts ≡ Some ws) × (fill ((spells o).row nothing) ws ≡ Some vs) = leaf_first f (a_path true) nothing ts vs h in
-        (path_reads x.0 x.1 ts x.2 x.3 (ap no_step (nothing_left x.1 x.2 vs x.4).1 ∙ (brought_stops rest.0 vs rest.1 rest.2).0)).0),
-    ((λ l o ts vs us h g rest. (path_reads l o ts vs h (ap no_step (nothing_left o vs us g).1 ∙ (brought_stops rest.0 us rest.1 rest.2).0)).1), tt),
+        (path_reads x.0 x.1 ts x.2 x.3 (ap no_step (nothing_row x.1 x.2 vs x.4).1 ∙ (brought_stops rest.0 vs rest.1 rest.2).0)).0),
+    ((λ l o ts vs us h g rest. (path_reads l o ts vs h (ap no_step (nothing_row o vs us g).1 ∙ (brought_stops rest.0 us rest.1 rest.2).0)).1), tt),
     (
       (λ l c ts vs g v rest. contents l c ts vs g v (subst Behind (turned (row_token rest.0 is.Semicolon nothing vs rest.1 rest.2).1) (refl, refl, refl))),
       tt,

@@ -20,8 +20,8 @@ use Rattle.wesl_text_reading.proofs.Filled.{no_some, of_some, fill, parts, one}
 use Rattle.wesl_text_reading.proofs.Takes.{first_parts}
 use Rattle.wesl_text_reading.proofs.Within.{Within, within_below}
 use Rattle.wesl_text_reading.proofs.RowReads.{RowOk, row_reads}
-use Rattle.wesl_text_reading.proofs.Chains.{row_token}
-use Rattle.wesl_text_reading.proofs.Operands.{InRows, in_rows, row_opens, row_closes, own_first, nothing_left}
+use Rattle.wesl_text_reading.proofs.Chains.{nothing_row, row_token}
+use Rattle.wesl_text_reading.proofs.Operands.{InRows, in_rows, row_opens, row_closes, own_first}
 use Rattle.wesl_text_reading.proofs.Complete.{ReadsSort, node_from}
 use Rattle.wesl_text_reading.proofs.Attributes.{row_word}
 
@@ -109,7 +109,7 @@ module _ (child : Sort → Reader) (n : ℕ) where
 
   space_ok : ReadsSort child n an_access Always (child an_access) → (s : AddressSpace) → RowOk child (read_part child) n ListEnds (space_row s)
   space_ok modes s = (
-    (λ vs rest. ap (λ z. begins_row child mode_row z) (nothing_left rest.0 vs rest.1 rest.2).1 ∙ rest.4),
+    (λ vs rest. ap (λ z. begins_row child mode_row z) (nothing_row rest.0 vs rest.1 rest.2).1 ∙ rest.4),
     (λ f ts vs h w rest. mode_begins f ts vs h),
     ((λ l c ts vs g v rest. modes l c ts vs g v tt), tt),
     tt,
@@ -136,7 +136,7 @@ module _ (child : Sort → Reader) (n : ℕ) where
 
   var_ok : ReadsSort child n a_space ListEnds (child a_space) → RowOk child (read_part child) n NoList var_row
   var_ok spaces = (
-    (λ vs rest. ap (λ z. comes_first open_list z) (nothing_left rest.0 vs rest.1 rest.2).1 ∙ rest.4),
+    (λ vs rest. ap (λ z. comes_first open_list z) (nothing_row rest.0 vs rest.1 rest.2).1 ∙ rest.4),
     (λ f ts vs h w rest. ap (λ z. comes_first open_list z) (row_opens f (own a_space (may_sym is.Comma (closes nothing))) ts vs h).1),
     (
       (λ l c ts vs g v rest. spaces l c ts vs g v (

@@ -11,8 +11,8 @@ use Rattle.wesl_text_reading.proofs.Filled.{fill}
 use Rattle.wesl_text_reading.proofs.Takes.{first_parts}
 use Rattle.wesl_text_reading.proofs.Within.{Within, within_below, within_more}
 use Rattle.wesl_text_reading.proofs.RowReads.{Rest}
-use Rattle.wesl_text_reading.proofs.Chains.{Ends}
-use Rattle.wesl_text_reading.proofs.Operands.{Ended, own_first, nothing_left}
+use Rattle.wesl_text_reading.proofs.Chains.{Ends, nothing_row}
+use Rattle.wesl_text_reading.proofs.Operands.{Ended, own_first}
 use Rattle.wesl_text_reading.proofs.Complete.{ReadsSort, node_by, expression_reads, type_reads_at, call_reads_at}
 use Rattle.wesl_text_reading.proofs.Runs.{Unopened, attribute_reads_at}
 use Rattle.wesl_text_reading.proofs.KindsRead.{NoList, kind_reads_at}
@@ -119,7 +119,7 @@ all_bodies n bodies clauses endings blocks = record {
 statements_at : (n : ℕ) → Bodies (inner n) n → StatementsAt n
 statements_at n b l c ts us h w e =
     node_by (ranked (at_level n any) 5) n a_statement l (at statement_node 0 0) c (own a_bare_statement nothing) (Stands (reading n)) ts us h refl (statement_is l)
-    ((λ l c ts vs g v more. (stated_at n l c ts vs g v).1 b (subst (Stands (reading n)) (turned (nothing_left more.0 vs more.1 more.2).1) more.4)), tt)
+    ((λ l c ts vs g v more. (stated_at n l c ts vs g v).1 b (subst (Stands (reading n)) (turned (nothing_row more.0 vs more.1 more.2).1) more.4)), tt)
     (within_below l c end n w) e
 
 -- ---- the steps

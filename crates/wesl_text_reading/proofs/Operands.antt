@@ -95,10 +95,6 @@ own_first (tree l c o) s row ts us h =
     let z : (vs : List Token) × (fill (first_slots l c (spells c) s) ts ≡ Some vs) × (fill ((spells o).row row) vs ≡ Some us) = parts (first_slots l c (spells c) s) ((spells o).row row) ts us h in
     (l, c, o, z.0, refl, z.1, z.2)
 
-pub nothing_left : (o : Forest) (ts us : List Token) → fill ((spells o).row nothing) ts ≡ Some us → (o ≡ end) × (ts ≡ us)
-nothing_left end ts us h = (refl, of_some ts us h)
-nothing_left (tree l c o) ts us h = absurd (no_some us h)
-
 -- ---- tables of one row
 
 pub only_row : (j : Kind) (row : Row) (k : Kind) (r : Row) → row_at ((j, row) ∷ []) k ≡ Some r → (k ≡ j) × (row ≡ r)

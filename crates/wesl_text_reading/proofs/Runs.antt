@@ -17,8 +17,8 @@ use Rattle.wesl_text_reading.proofs.KindsAgain.{kind_is, role_is}
 use Rattle.wesl_text_reading.proofs.Within.{Within, within_below}
 use Rattle.wesl_text_reading.proofs.RowReads.{RowOk}
 use Rattle.wesl_text_reading.proofs.Loops.{Last, all_reads}
-use Rattle.wesl_text_reading.proofs.Chains.{Ends, row_token}
-use Rattle.wesl_text_reading.proofs.Operands.{only_row, leaf_first, own_first, nothing_left}
+use Rattle.wesl_text_reading.proofs.Chains.{Ends, nothing_row, row_token}
+use Rattle.wesl_text_reading.proofs.Operands.{only_row, leaf_first, own_first}
 use Rattle.wesl_text_reading.proofs.Complete.{ReadsSort, node_by, from_any, complete, type_reads, argument_reads}
 use Rattle.wesl_text_reading.proofs.Attributes.{attribute_reads}
 use Rattle.std.proofs.lemmas.Bool.{and_parts}
@@ -66,7 +66,7 @@ module _ (child : Sort → Reader) (n : ℕ) where
   spanned_attribute_reads : ReadsSort child n a_bare_attribute Unopened (child a_bare_attribute) → ReadsSort child n an_attribute Unopened (node child an_attribute)
   spanned_attribute_reads bare l c ts us h w e =
       node_by child n an_attribute l (at attribute_node 0 0) c (own a_bare_attribute nothing) Unopened ts us h refl (attribute_is l)
-      ((λ l c ts vs g v rest. bare l c ts vs g v (subst Unopened (turned (nothing_left rest.0 vs rest.1 rest.2).1) rest.4)), tt) (within_below l c end n w) e
+      ((λ l c ts vs g v rest. bare l c ts vs g v (subst Unopened (turned (nothing_row rest.0 vs rest.1 rest.2).1) rest.4)), tt) (within_below l c end n w) e
 
 -- an attribute that is said is read
 pub attribute_reads_at : (n : ℕ) (l : Label) (c : Forest) (ts us : List Token) → fill (first_slots l c (spells c) an_attribute) ts ≡ Some us → Within n (tree l c end) → Unopened us → reading n an_attribute ts ≡ Some (node_of l c, us)
@@ -122,7 +122,7 @@ module _ (child : Sort → Reader) (n : ℕ) (one_attribute : ReadsSort child n 
         named_attributes g ts vs h w (binder_reads x.0 x.1 vs x.2 x.3).0),
     (
       (λ l o ts vs us h g e. (binder_reads l o ts vs h).1),
-      ((λ l c ts vs g v rest. types l c ts vs g v (subst Ends (turned (nothing_left rest.0 vs rest.1 rest.2).1) rest.4)), tt),
+      ((λ l c ts vs g v rest. types l c ts vs g v (subst Ends (turned (nothing_row rest.0 vs rest.1 rest.2).1) rest.4)), tt),
     ),
   )
 
@@ -132,7 +132,7 @@ module _ (child : Sort → Reader) (n : ℕ) (one_attribute : ReadsSort child n 
         named_attributes g ts vs h w (name_reads x.0 x.1 vs x.2 x.3).0),
     (
       (λ l o ts vs us h g e. (name_reads l o ts vs h).1),
-      ((λ l c ts vs g v rest. types l c ts vs g v (subst Ends (turned (nothing_left rest.0 vs rest.1 rest.2).1) rest.4)), tt),
+      ((λ l c ts vs g v rest. types l c ts vs g v (subst Ends (turned (nothing_row rest.0 vs rest.1 rest.2).1) rest.4)), tt),
     ),
   )
 
@@ -182,7 +182,7 @@ spanned_member_is l r h = absurd (no_some r h)
 member_reads : (child : Sort → Reader) (n : ℕ) → ReadsSort child n a_bare_member Ends (child a_bare_member) → ReadsSort child n a_member Ends (node child a_member)
 member_reads child n bare l c ts us h w e =
     node_by child n a_member l (at member_node 0 0) c (own a_bare_member nothing) Ends ts us h refl (spanned_member_is l)
-    ((λ l c ts vs g v rest. bare l c ts vs g v (subst Ends (turned (nothing_left rest.0 vs rest.1 rest.2).1) rest.4)), tt) (within_below l c end n w) e
+    ((λ l c ts vs g v rest. bare l c ts vs g v (subst Ends (turned (nothing_row rest.0 vs rest.1 rest.2).1) rest.4)), tt) (within_below l c end n w) e
 
 pub member_reads_at : (n : ℕ) (l : Label) (c : Forest) (ts us : List Token) → fill (first_slots l c (spells c) a_member) ts ≡ Some us → Within n (tree l c end) → Ends us → reading n a_member ts ≡ Some (node_of l c, us)
 member_reads_at n l c ts us h w e = member_reads (ranked (at_level n any) 3) n (λ l c ts us h w e. bare_member_reads_at n l c ts us h w e) l c ts us h w e

@@ -12,9 +12,10 @@ use Rattle.wesl_text_reading.proofs.Filled.{no_some, no_true, fill}
 use Rattle.wesl_text_reading.proofs.Takes.{first_parts}
 use Rattle.wesl_text_reading.proofs.Within.{Within, within_below}
 use Rattle.wesl_text_reading.proofs.RowReads.{row_reads}
-use Rattle.wesl_text_reading.proofs.Operands.{InRows, in_rows, Ended, is_first_word, begins_operand, own_first, nothing_left, operand_first}
+use Rattle.wesl_text_reading.proofs.Operands.{InRows, in_rows, Ended, is_first_word, begins_operand, own_first, operand_first}
 use Rattle.wesl_text_reading.proofs.Complete.{ReadsSort, node_from, from_any, complete}
 use Rattle.wesl_text_reading.proofs.Attributes.{row_word}
+use Rattle.wesl_text_reading.proofs.Chains.{nothing_row}
 
 -- no operand begins with a word that may not begin one
 pub not_word : (w : Text) → is_first_word w ≡ false → (ts : List Token) → begins_operand ts ≡ true → begins_word w ts ≡ false
@@ -41,7 +42,7 @@ module _ (child : Sort → Reader) (n : ℕ) (exprs : ReadsSort child n an_expre
       let y : (l : Label) × (d : Forest) × (x : Forest) × (vs : List Token) × (c ≡ tree l d x) × (fill (first_slots l d (spells d) an_expression) ts ≡ Some vs) × (fill ((spells x).row nothing) vs ≡ Some us) = own_first c an_expression nothing ts us g in
       node_from child a_selector (kind k) c (own an_expression nothing) ts us (o ∙ ap (λ z. Some z) (turned q.1)) f
       (ap (λ b. Some (selector_label b)) (not_word (codes "default") refl ts (operand_first y.0 y.1 ts y.3 y.5)) ∙ ap (λ z. Some (kind z)) (turned q.0))
-      (row_reads child (read_part child) n c (own an_expression nothing) Ended ((λ l c ts vs g v rest. exprs l c ts vs g v (subst Ended (turned (nothing_left rest.0 vs rest.1 rest.2).1) rest.4)), tt) ts us g w e)
+      (row_reads child (read_part child) n c (own an_expression nothing) Ended ((λ l c ts vs g v rest. exprs l c ts vs g v (subst Ended (turned (nothing_row rest.0 vs rest.1 rest.2).1) rest.4)), tt) ts us g w e)
   of_row k c r ts us o f h w e (inr (inr q)) = absurd q
 
   pub selector_reads : ReadsSort child n a_selector Ended (node child a_selector)

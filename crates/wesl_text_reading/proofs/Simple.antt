@@ -58,13 +58,13 @@ assignment_tells assignment_operator.ShiftLeftAssign vs = refl
 assignment_tells assignment_operator.ShiftRightAssign vs = refl
 
 -- `_` is one tree
-wild_word : (m : Label) → is_underscore m ≡ true → m ≡ ident reference (codes "_")
+pub wild_word : (m : Label) → is_underscore m ≡ true → m ≡ ident reference (codes "_")
 wild_word (ident reference t) h = ap (λ z. let l : Label = ident reference z in l) ((bytes_eq-Decides t (codes "_")).0 h)
 wild_word (ident binder t) h = absurd (no_true h)
 wild_word (ident word t) h = absurd (no_true h)
 wild_word l h = absurd (no_true h)
 
-wild_is : (child : Sort → Reader) (l : Label) (c : Forest) → is_wildcard l c ≡ true → node_of l c ≡ wildcard child
+pub wild_is : (child : Sort → Reader) (l : Label) (c : Forest) → is_wildcard l c ≡ true → node_of l c ≡ wildcard child
 wild_is child (at expression_node zero zero) (tree (kind type_or_identifier) (tree (kind type_expression) (tree (kind absent) end (tree m end (tree (kind absent) end end))) end) end) h =
     ap (λ z. node_of (at expression_node 0 0) (tree (kind type_or_identifier) (tree (kind type_expression) (tree (kind absent) end (tree z end (tree (kind absent) end end))) end) end)) (wild_word m h)
 wild_is child l c h = absurd (no_true h)

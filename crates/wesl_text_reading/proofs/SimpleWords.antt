@@ -13,8 +13,8 @@ use Rattle.wesl_text_reading.proofs.Filled.{no_some, no_true, fill, both}
 use Rattle.wesl_text_reading.proofs.Takes.{first_parts}
 use Rattle.wesl_text_reading.proofs.Within.{Within, within_below}
 use Rattle.wesl_text_reading.proofs.RowReads.{RowOk, row_reads, joined}
-use Rattle.wesl_text_reading.proofs.Chains.{Ends, row_token}
-use Rattle.wesl_text_reading.proofs.Operands.{InRows, in_rows, Ended, begins_operand, own_first, leaf_first, nothing_left, row_optional, operand_first, call_begins}
+use Rattle.wesl_text_reading.proofs.Chains.{Ends, nothing_row, row_token}
+use Rattle.wesl_text_reading.proofs.Operands.{InRows, in_rows, Ended, begins_operand, own_first, leaf_first, row_optional, operand_first, call_begins}
 use Rattle.wesl_text_reading.proofs.Complete.{ReadsSort}
 use Rattle.wesl_text_reading.proofs.Attributes.{row_word}
 use Rattle.wesl_text_reading.proofs.Runs.{binder_reads}
@@ -119,11 +119,11 @@ module _ (child part : Sort → Reader) (n : ℕ) (parted : ReadsParted child n 
       (
         (λ vs more. (value_first more.0 vs more.1 more.2 more.4).0),
         (λ f ts vs h w more. ap (λ z. begins_sign is.Colon z) (row_token f is.Colon (own a_type nothing) ts vs h).1),
-        ((λ l c ts vs g v more. types l c ts vs g v (subst Ends (turned (nothing_left more.0 vs more.1 more.2).1) (value_first more.4.0 more.1 more.4.1 more.4.2 more.4.4).1)), tt),
+        ((λ l c ts vs g v more. types l c ts vs g v (subst Ends (turned (nothing_row more.0 vs more.1 more.2).1) (value_first more.4.0 more.1 more.4.1 more.4.2 more.4.4).1)), tt),
         (
           (λ vs more. (tail_other vs (tail_is more.0 vs more.1 more.2 more.4)).1),
           (λ f ts vs h w more. ap (λ z. begins_sign is.Equal z) (row_token f is.Equal (own an_expression nothing) ts vs h).1),
-          ((λ l c ts vs g v more. exprs l c ts vs g v (subst Ended (turned (nothing_left more.0 vs more.1 more.2).1) (tail_ends more.1 (tail_is more.4.0 more.1 more.4.1 more.4.2 more.4.4)))), tt),
+          ((λ l c ts vs g v more. exprs l c ts vs g v (subst Ended (turned (nothing_row more.0 vs more.1 more.2).1) (tail_ends more.1 (tail_is more.4.0 more.1 more.4.1 more.4.2 more.4.4)))), tt),
           tail_ok,
         ),
       ),

@@ -12,8 +12,8 @@ use Rattle.wesl_text_reading.proofs.Filled.{no_some, fill, parts}
 use Rattle.wesl_text_reading.proofs.Takes.{chosen, where_true, first_parts}
 use Rattle.wesl_text_reading.proofs.Within.{Within, within_below}
 use Rattle.wesl_text_reading.proofs.RowReads.{Rest, RowOk, row_reads}
-use Rattle.wesl_text_reading.proofs.Chains.{row_token}
-use Rattle.wesl_text_reading.proofs.Operands.{Ended, own_first, nothing_left, begins_one}
+use Rattle.wesl_text_reading.proofs.Chains.{nothing_row, row_token}
+use Rattle.wesl_text_reading.proofs.Operands.{Ended, own_first, begins_one}
 use Rattle.wesl_text_reading.proofs.Complete.{ReadsSort}
 use Rattle.wesl_text_reading.proofs.Attributes.{row_word}
 use Rattle.wesl_text_reading.proofs.Runs.{Unopened}
@@ -83,7 +83,7 @@ module _ (child : Sort → Reader) (n : ℕ) (one_attribute : ReadsSort child n 
       (λ b. (
         (λ vs more. ap begins_expression (row_token more.0 is.Semicolon nothing vs more.1 more.2).1),
         (λ f ts vs h w more. let y : (j : Label) × (d : Forest) × (x : Forest) × (ws : List Token) × (f ≡ tree j d x) × (fill (first_slots j d (spells d) an_expression) ts ≡ Some ws) × (fill ((spells x).row nothing) ws ≡ Some vs) = own_first f an_expression nothing ts vs h in begins_one y.0 y.1 ts y.3 y.5),
-        ((λ l c ts vs g v more. exprs l c ts vs g v (subst Ended (turned (nothing_left more.0 vs more.1 more.2).1) (semicolon_ended more.4.0 nothing more.1 more.4.1 more.4.2))), tt),
+        ((λ l c ts vs g v more. exprs l c ts vs g v (subst Ended (turned (nothing_row more.0 vs more.1 more.2).1) (semicolon_ended more.4.0 nothing more.1 more.4.1 more.4.2))), tt),
         tt,
       )) h w
 
@@ -170,7 +170,7 @@ module _ (child : Sort → Reader) (n : ℕ) (one_attribute : ReadsSort child n 
     no_if vs ws (inr q) = ap (λ a. begins_word (codes "if") a) q
 
     by : (((is_kind absent (Some l) && is_end c) ≡ true) × (fill ((spells o).row nothing) vs ≡ Some us)) ⊎ (((is_kind absent (Some l) && is_end c) ≡ false) × (fill (if is_kind present (Some l) then followed ((spells c).row (own an_else nothing)) ((spells o).row nothing) else None) vs ≡ Some us)) → begins_child child an_else_if vs ≡ false
-    by (inl x) = ap (λ z. begins_child child an_else_if z) (nothing_left o vs us x.1).1 ∙ ap (λ b. b && begins_word (codes "if") (behind_first (behind_attributes child us))) e
+    by (inl x) = ap (λ z. begins_child child an_else_if z) (nothing_row o vs us x.1).1 ∙ ap (λ b. b && begins_word (codes "if") (behind_first (behind_attributes child us))) e
     by (inr x) =
         let y : (is_kind present (Some l) ≡ true) × (fill (followed ((spells c).row (own an_else nothing)) ((spells o).row nothing)) vs ≡ Some us) = where_true (is_kind present (Some l)) (followed ((spells c).row (own an_else nothing)) ((spells o).row nothing)) vs us x.1 in
         let z : (ws : List Token) × (fill ((spells c).row (own an_else nothing)) vs ≡ Some ws) × (fill ((spells o).row nothing) ws ≡ Some us) = parts ((spells c).row (own an_else nothing)) ((spells o).row nothing) vs us y.1 in
@@ -191,7 +191,7 @@ module _ (child : Sort → Reader) (n : ℕ) (one_attribute : ReadsSort child n 
               run_reads child n an_else_if Always (λ l c ts us h w e. p.else_ifs l c ts us h w tt) (λ l c ts us h w. ap (λ a. begins_sort an_else_if a) (else_if_behind child n one_attribute exprs p.bodies l c ts us h w).1) (λ l c ts us h w. tt) g ts vs h w
               (else_last p more.0 vs more.1 more.2 more.3 more.4) tt),
           (
-            (λ vs more. ap (λ a. begins_child child an_else a) (nothing_left more.0 vs more.1 more.2).1 ∙ more.4),
+            (λ vs more. ap (λ a. begins_child child an_else a) (nothing_row more.0 vs more.1 more.2).1 ∙ more.4),
             (λ f ts vs h w more.
                 let t : (j : Label) × (d : Forest) × (x : Forest) × (ws : List Token) × (f ≡ tree j d x) × (fill (first_slots j d (spells d) an_else) ts ≡ Some ws) × (fill ((spells x).row nothing) ws ≡ Some vs) = own_first f an_else nothing ts vs h in
                 ap (λ a. begins_sort an_else a) (else_behind child n one_attribute exprs p.bodies t.0 t.1 ts t.3 t.5 ((subst (λ a. Within n a) t.4 w).0, tt)).1),

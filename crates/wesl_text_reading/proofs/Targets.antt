@@ -16,8 +16,8 @@ use Rattle.wesl_text_reading.proofs.KindsAgain.{label_is}
 use Rattle.wesl_text_reading.proofs.Within.{Within, within_below}
 use Rattle.wesl_text_reading.proofs.RowReads.{joined}
 use Rattle.wesl_text_reading.proofs.Loops.{Last, all_reads}
-use Rattle.wesl_text_reading.proofs.Chains.{expression_parts, row_token}
-use Rattle.wesl_text_reading.proofs.Operands.{InRows, in_rows, own_first, nothing_left, type_begins}
+use Rattle.wesl_text_reading.proofs.Chains.{expression_parts, nothing_row, row_token}
+use Rattle.wesl_text_reading.proofs.Operands.{InRows, in_rows, own_first, type_begins}
 use Rattle.wesl_text_reading.proofs.Complete.{node_from, from_any, complete}
 use Rattle.wesl_text_reading.proofs.Attributes.{is_open_custom, Parted, attribute_parted}
 use Rattle.wesl_text_reading.proofs.Runs.{Unopened, attribute_is, attribute_at}
@@ -33,7 +33,7 @@ open_same l (kind custom) (tree m b (tree (kind absent) end end)) = refl
 open_same l (kind custom) d = refl
 open_same l j d = refl
 
-open_last : (l : Label) (c : Forest) (k : Label) (d o : Forest) → ends_open (tree l c (tree k d o)) ≡ ends_open (tree k d o)
+pub open_last : (l : Label) (c : Forest) (k : Label) (d o : Forest) → ends_open (tree l c (tree k d o)) ≡ ends_open (tree k d o)
 open_last l (tree (kind custom) (tree m b (tree (kind absent) end end)) end) k d o = refl
 open_last l c k d o = refl
 
@@ -48,7 +48,7 @@ module _ (child : Sort → Reader) (n : ℕ) where
       let z : (l ≡ at attribute_node 0 0) × (own a_bare_attribute nothing ≡ x.0) = attribute_is l x.0 x.1 in
       let y : (j : Label) × (d : Forest) × (o : Forest) × (vs : List Token) × (c ≡ tree j d o) × (fill (first_slots j d (spells d) a_bare_attribute) ts ≡ Some vs) × (fill ((spells o).row nothing) vs ≡ Some us)
       = own_first c a_bare_attribute nothing ts us (subst (λ z. fill ((spells c).row z) ts ≡ Some us) (turned z.1) x.3) in
-      let t : (y.2 ≡ end) × (y.3 ≡ us) = nothing_left y.2 y.3 us y.6 in
+      let t : (y.2 ≡ end) × (y.3 ≡ us) = nothing_row y.2 y.3 us y.6 in
       let q : c ≡ tree y.0 y.1 end = y.4 ∙ ap (λ s. tree y.0 y.1 s) t.0 in
       node_from child an_attribute l c (own a_bare_attribute nothing) ts us (x.1 ∙ ap (λ s. Some s) (turned z.1)) x.2 (ap (λ s. Some s) (turned z.0))
       (joined (λ s. s) (child a_bare_attribute ts) (node_of y.0 y.1) us (read_row child (read_part child) nothing) end us

@@ -102,7 +102,7 @@ origin_is (relative zero) = refl
 origin_is (relative (suc n)) = refl
 origin_is (from_package p) = refl
 
-stepped_joined : (ws us : List Text) → stepped ws ++ stepped us ≡ stepped (ws ++ us)
+pub stepped_joined : (ws us : List Text) → stepped ws ++ stepped us ≡ stepped (ws ++ us)
 stepped_joined [] us = refl
 stepped_joined (w ∷ ws) us = ap (λ z. named w ∷ signed is.ColonColon ∷ z) (stepped_joined ws us)
 

@@ -12,8 +12,8 @@ use Rattle.wesl_text_reading.proofs.Filled.{no_some, of_some, fill, parts}
 use Rattle.wesl_text_reading.proofs.Takes.{where_true, first_parts}
 use Rattle.wesl_text_reading.proofs.Within.{Within, within_below}
 use Rattle.wesl_text_reading.proofs.RowReads.{RowOk, row_reads}
-use Rattle.wesl_text_reading.proofs.Chains.{Ends}
-use Rattle.wesl_text_reading.proofs.Operands.{InRows, in_rows, own_first, nothing_left}
+use Rattle.wesl_text_reading.proofs.Chains.{Ends, nothing_row}
+use Rattle.wesl_text_reading.proofs.Operands.{InRows, in_rows, own_first}
 use Rattle.wesl_text_reading.proofs.Complete.{ReadsSort}
 use Rattle.wesl_text_reading.proofs.Runs.{Unopened, attribute_reads_at, parameter_reads_at, member_reads_at}
 use Rattle.wesl_text_reading.proofs.Worded.{word_behind, run_reads}
@@ -107,7 +107,7 @@ module _ (n : ℕ) where
   declarations_apart (tree l c o) vs us h w e =
       let y : (is_kind declarations (Some l) ≡ true) × (fill (followed ((spells c).all a_declaration) ((spells o).row nothing)) vs ≡ Some us) = where_true (is_kind declarations (Some l)) (followed ((spells c).all a_declaration) ((spells o).row nothing)) vs us h in
       let z : (ws : List Token) × (fill ((spells c).all a_declaration) vs ≡ Some ws) × (fill ((spells o).row nothing) ws ≡ Some us) = parts ((spells c).all a_declaration) ((spells o).row nothing) vs us y.1 in
-      by c z.0 z.1 (within_below l c o n w) ((nothing_left o z.0 us z.2).1 ∙ e) where
+      by c z.0 z.1 (within_below l c o n w) ((nothing_row o z.0 us z.2).1 ∙ e) where
         by : (c : Forest) (ws : List Token) → fill ((spells c).all a_declaration) vs ≡ Some ws → Within n c → ws ≡ [] → Apart vs
         by end ws g v q = subst Apart (turned (of_some vs ws g ∙ q)) (refl, refl)
         by (tree j d p) ws g v q =
@@ -140,7 +140,7 @@ module _ (n : ℕ) where
         (λ g ts vs h w more.
             run_reads (reading n) n a_declaration Always (λ l c ts us h w e. declarations_at n l c ts us h w)
             (λ l c ts us h w. let b : (xs : List Token) × (behind_attributes (reading n) ts ≡ xs) × Declares xs = behind_at n l c ts us h w in ap (λ s. begins_sort a_declaration s) b.1 ∙ ap not b.2.0) (λ l c ts us h w. tt) g ts vs h w
-            (ap (λ s. begins_child (reading n) a_declaration s) ((nothing_left more.0 vs more.1 more.2).1 ∙ more.4)) tt),
+            (ap (λ s. begins_child (reading n) a_declaration s) ((nothing_row more.0 vs more.1 more.2).1 ∙ more.4)) tt),
         tt,
       ),
     ),

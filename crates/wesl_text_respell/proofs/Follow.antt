@@ -16,6 +16,7 @@ use Rattle.wesl_text_respell.proofs.Kept.{end_kept, kind_kept, class_kept, leads
 use Rattle.wesl_text_respell.proofs.Related.{none, other, like_self, Follows, follows_self, follows_joined, follows_either}
 use Rattle.wesl_text_respell.proofs.Leaves.{leaf_kept, leaf_renamed, Begin, path_gone, ident_begins}
 use Rattle.wesl_text_respell.proofs.Trees.{rows_fair, TreesFollow, none_follow, place, target_is, tree_follows}
+use Rattle.wesl_text_reading.proofs.ForParts.{no_slots}
 
 -- ---- nodes
 
@@ -37,10 +38,6 @@ name_row = leaf (an_ident reference) arguments_row
 
 abbrev type_row : Row
 type_row = optional (leaf (a_path false) nothing) name_row
-
-no_slots : (o : Slots) → followed o None ≡ None
-no_slots None = refl
-no_slots (Some ss) = refl
 
 -- where the arguments are a type, there are no slots
 typed_second : (f : Forest) → is_kind type_expression (label_at 1 f) ≡ true → (spells f).row name_row ≡ None

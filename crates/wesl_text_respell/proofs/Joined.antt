@@ -11,7 +11,7 @@ use Rattle.wesl_text_writable.proofs.Grouped.{number_behind, NoBrackets, IsBrack
 use Rattle.wesl_text_writable.proofs.KnownApart.{before_joined, known_apart}
 use Rattle.wesl_text_writable.proofs.Quiet.{mark_first}
 use Rattle.wesl_text_writable.proofs.MadeApart.{AllBracketed, AreMeant}
-use Rattle.wesl_text_writable.proofs.LeftOut.{number_of, state, SameBrackets, names_forgotten, unmarked_first, done_here}
+use Rattle.wesl_text_writable.proofs.LeftOut.{SameBrackets, behind_le, done_here, first_bracketed, names_forgotten, number_of, state, unmarked_first}
 use Rattle.wesl_text_respell.proofs.Inside.{leads_end}
 use Rattle.wesl_text_respell.proofs.Rests.{unknown, rests, rest_behind, Rests, leads_tokens, rests_behind}
 use Rattle.wesl_text_respell.proofs.Moved.{on, on_suc, on_zero, on_le, all_on, among_on, less_on, moved, known_moved}
@@ -30,10 +30,6 @@ before_state : (ts : List Token) (i : ℕ) (k : Known) → Before i k → Before
 before_state [] i k b = b
 before_state (t ∷ ts) i k b = before_state ts (number_behind i (token_bits t)) (known_from i k (token_bits t)) (before_joined (token_bits t) i k b)
 
-first_bracketed : (final : Known) (ts us : List Token) (i : ℕ) → AllBracketed final i (ts ++ us) → AllBracketed final i ts
-first_bracketed final [] us i a = tt
-first_bracketed final (t ∷ ts) us i a = (a.0, first_bracketed final ts us (number_behind i (token_bits t)) a.1)
-
 last_bracketed : (final : Known) (ts us : List Token) (i : ℕ) → AllBracketed final i (ts ++ us) → AllBracketed final (number_of i ts) us
 last_bracketed final [] us i a = a
 last_bracketed final (t ∷ ts) us i a = last_bracketed final ts us (number_behind i (token_bits t)) a.1
@@ -43,10 +39,6 @@ both_bracketed final [] us i a b = b
 both_bracketed final (t ∷ ts) us i a b = (a.0, both_bracketed final ts us (number_behind i (token_bits t)) a.1 b)
 
 -- ---- the same brackets under other numbers
-
-behind_le : (bs : List Bit) (i : ℕ) → i ≤ number_behind i bs
-behind_le [] i = omega arith
-behind_le (b ∷ bs) i = omega (arith, behind_le bs (suc i))
 
 number_le : (ts : List Token) (i : ℕ) → i ≤ number_of i ts
 number_le [] i = omega arith

@@ -7,6 +7,7 @@ use Rattle.wesl_text_form.specs.Productions.{Sort, a_bare_statement}
 use Rattle.wesl_text_form.specs.Spelling.{Label, Forest, label_at, below_first, from_place, is_kind, is_end, class_at, leads_to_place, ends_open, begins_enclosed, are_apart, is_target_at, is_empty_at, is_absent_at, is_simple, is_simple_at, fits, stands_as, is_lone_default}
 use Rattle.wesl_text_reading.proofs.Filled.{no_true}
 use Rattle.wesl_text_respell.specs.Respelled.{named_by, IsNamed, IsRespelled, ends, same, renamed, unqualified, discards}
+use Rattle.wesl_text_reading.proofs.Targets.{open_last}
 
 -- the trees from a place on
 place_kept : {c d : Forest} (n : ℕ) → IsRespelled c d → IsRespelled (from_place n c) (from_place n d)
@@ -98,10 +99,6 @@ open_kept (unqualified q c o) = open_kept o
 open_kept (discards n a v o) = open_kept o
 
 -- the first of two has no bearing
-open_second : (l : Label) (c : Forest) (m : Label) (d o : Forest) → ends_open (tree l c (tree m d o)) ≡ ends_open (tree m d o)
-open_second l (tree (kind custom) (tree k b (tree (kind absent) end end)) end) m d o = refl
-open_second l c m d o = refl
-
 -- nor has a name
 open_named : (t o : Forest) → IsNamed t → ends_open (tree (at expression_node 0 0) t o) ≡ ends_open o
 open_named t o (inl x) = ap (λ z. ends_open (tree (at expression_node 0 0) z o)) x.1
@@ -109,7 +106,7 @@ open_named t o (inr x) = ap (λ z. ends_open (tree (at expression_node 0 0) z o)
 
 open_discards : {v w : Forest} (a b t u : Forest) → IsNamed t → IsNamed u → IsRespelled v w → ends_open (tree (kind attributes) b (tree (at expression_node 0 0) u w)) ≡ ends_open (tree (kind attributes) a (tree (at expression_node 0 0) t v))
 open_discards {v = v} {w = w} a b t u n m r =
-    open_second (kind attributes) b (at expression_node 0 0) u w ∙ (open_named u w m ∙ (open_kept r ∙ turned (open_second (kind attributes) a (at expression_node 0 0) t v ∙ open_named t v n)))
+    open_last (kind attributes) b (at expression_node 0 0) u w ∙ (open_named u w m ∙ (open_kept r ∙ turned (open_last (kind attributes) a (at expression_node 0 0) t v ∙ open_named t v n)))
 
 open_below : {c d : Forest} → IsRespelled c d → ends_open (below_first d) ≡ ends_open (below_first c)
 open_below ends = refl

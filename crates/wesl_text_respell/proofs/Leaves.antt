@@ -4,15 +4,15 @@ use Rattle.wesl_tree_base.specs.Pieces.{supers}
 use Rattle.wesl_tree_names.specs.Path.{Text, Path, Origin, absolute, relative, from_package}
 use Rattle.wesl_tree_syntax.specs.Tree.{Role, binder, word, ident, text, texts, truth, path, absent, end, tree}
 use Rattle.wesl_tree_syntax.specs.Kinds.{same_role}
-use Rattle.wesl_text_tokens.specs.declared.symbol.Symbol.TheVariants as is
 use Rattle.wesl_text_tokens.specs.Tokens.{name}
 use Rattle.wesl_text_form.specs.Slots.{Slot, must}
 use Rattle.wesl_text_form.specs.Names.{is_name, is_path}
 use Rattle.wesl_text_form.specs.Productions.{Leaf, an_ident, an_item, a_name, a_word, a_custom, a_literal, a_rule, some_words, one_or_two, steps, a_path, Row, leaf}
-use Rattle.wesl_text_form.specs.Spelling.{Label, Forest, Slots, spells, followed, provided, named, signed, stepped, origin_slots, is_end, item_role, leaf_slots}
+use Rattle.wesl_text_form.specs.Spelling.{Label, Forest, Slots, spells, followed, provided, named, stepped, origin_slots, is_end, item_role, leaf_slots}
 use Rattle.wesl_text_respell.specs.Respelled.{MayBecome, IsRespelled}
 use Rattle.wesl_text_respell.proofs.Kept.{kind_kept}
 use Rattle.wesl_text_respell.proofs.Related.{IsLike, none, other, like_stepped, Follows}
+use Rattle.wesl_text_reading.proofs.Types.{stepped_joined}
 
 -- the same leaf, before other trees
 pub leaf_kept : {o p : Forest} (f : Leaf) (l : Label) → IsRespelled o p → leaf_slots f l p ≡ leaf_slots f l o
@@ -63,10 +63,6 @@ origin_stepped absolute = refl
 origin_stepped (relative zero) = refl
 origin_stepped (relative (suc n)) = refl
 origin_stepped (from_package p) = refl
-
-stepped_joined : (ws vs : List Text) → stepped ws ++ stepped vs ≡ stepped (ws ++ vs)
-stepped_joined [] vs = refl
-stepped_joined (w ∷ ws) vs = ap (λ z. named w ∷ signed is.ColonColon ∷ z) (stepped_joined ws vs)
 
 -- slots that begin with a name, where there are any
 abbrev pub Begin : Slots → Type 0

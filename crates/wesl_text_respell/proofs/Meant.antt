@@ -1,5 +1,5 @@
 -- Tokens with other names, and without steps of paths, are meant as before.
-use Rattle.std.proofs.Common.{◌≡◌, ℕ, Bool, true, false, not, ◌&&◌, if◌then◌else◌, List, [], ◌∷◌, ◌++◌, Option, None, refl, sym as turned, ap, ◌∙◌, subst, append_assoc, codes}
+use Rattle.std.proofs.Common.{◌≡◌, ℕ, Bool, true, false, not, ◌&&◌, if◌then◌else◌, List, [], ◌∷◌, ◌++◌, Option, None, refl, sym as turned, ap, ◌∙◌, subst, codes}
 use Rattle.wesl_tree_names.specs.Path.{Text}
 use Rattle.wesl_text_tokens.specs.declared.symbol.Symbol.{Symbol}
 use Rattle.wesl_text_tokens.specs.declared.symbol.Symbol.TheVariants as is
@@ -9,7 +9,6 @@ use Rattle.wesl_text_tokens.specs.Tokens.{Token, name, number, symbol, open_list
 use Rattle.wesl_text_tokens.proofs.SymbolTexts.{each}
 use Rattle.wesl_text_form.specs.Slots.{Slot, must, may, alone, fewest}
 use Rattle.wesl_text_form.specs.Says.{token_bits, bits_apart}
-use Rattle.wesl_text_reading.proofs.Filled.{no_true}
 use Rattle.wesl_text_writable.proofs.Signs.{is_piece, lone, meet, BitsFit}
 use Rattle.wesl_text_writable.proofs.Grouped.{number_behind, Grouped, grouped}
 use Rattle.wesl_text_writable.proofs.KnownApart.{known_apart}
@@ -17,6 +16,8 @@ use Rattle.wesl_text_writable.proofs.MadeApart.{AllBracketed, AreMeant}
 use Rattle.wesl_text_writable.proofs.LeftOut.{left_out, forgotten_unseen, name_forgotten, unmarked_first}
 use Rattle.wesl_text_respell.proofs.Related.{IsLike, none, as_is, other, fewer}
 use Rattle.std.proofs.lemmas.Bool.{and_parts}
+use Rattle.wesl_text_reading.proofs.Classes.{denied}
+use Rattle.wesl_text_writable.proofs.Printed.{moved}
 
 -- ---- another name
 
@@ -44,9 +45,6 @@ step_gone done w x us a =
     (left_out done (symbol is.ColonColon ∷ name x ∷ us) (name w) _ (refl, refl, refl) (forgotten_unseen (name w) (name_forgotten w) done (symbol is.ColonColon ∷ name x ∷ us) (unmarked_first (symbol is.ColonColon ∷ name x ∷ us) refl)) a)
 
 -- ---- all tokens that must stand
-
-moved : (done : List Token) (t : Token) (ts : List Token) → (done ++ t ∷ []) ++ ts ≡ done ++ t ∷ ts
-moved done t ts = append_assoc done (t ∷ []) ts
 
 one_more : (t : Token) (done ts us : List Token) → (AreMeant ((done ++ t ∷ []) ++ ts) → AreMeant ((done ++ t ∷ []) ++ us)) → AreMeant (done ++ t ∷ ts) → AreMeant (done ++ t ∷ us)
 one_more t done ts us f a = subst AreMeant (moved done t us) (f (subst AreMeant (turned (moved done t ts)) a))
@@ -76,10 +74,6 @@ abbrev fit_apart : List Bit → Bool
 fit_apart [] = true
 fit_apart (b ∷ bs) = not b.is_glued && fit_behind (b ∷ bs)
 
-not_so : (b : Bool) → not b ≡ true → b ≡ false
-not_so true h = absurd (no_true h)
-not_so false h = refl
-
 symbols_fit : (s : Symbol) → fit_apart (token_bits (symbol s)) ≡ true
 symbols_fit s = each (λ z. fit_apart (token_bits (symbol z))) refl s
 
@@ -92,13 +86,13 @@ fits_behind b [] rest h f = f (lone b.what)
 fits_behind b (c ∷ cs) rest h f =
     let x : (not (c.is_glued && meet (lone b.what) (lone c.what)) ≡ true) × (fit_behind (c ∷ cs) ≡ true)
     = and_parts (not (c.is_glued && meet (lone b.what) (lone c.what))) (fit_behind (c ∷ cs)) (and_parts (is_piece b.what) (not (c.is_glued && meet (lone b.what) (lone c.what)) && fit_behind (c ∷ cs)) h).1 in
-    (first_piece c cs x.1, not_so (c.is_glued && meet (lone b.what) (lone c.what)) x.0, fits_behind c cs rest x.1 f)
+    (first_piece c cs x.1, denied (c.is_glued && meet (lone b.what) (lone c.what)) x.0, fits_behind c cs rest x.1 f)
 
 fits_apart : (bs rest : List Bit) → fit_apart bs ≡ true → ((p : Option ℕ) → BitsFit p rest) → (p : Option ℕ) → BitsFit p (bs ++ rest)
 fits_apart [] rest h f p = f p
 fits_apart (b ∷ bs) rest h f p =
     let x : (not b.is_glued ≡ true) × (fit_behind (b ∷ bs) ≡ true) = and_parts (not b.is_glued) (fit_behind (b ∷ bs)) h in
-    (first_piece b bs x.1, ap (λ z. z && meet p (lone b.what)) (not_so b.is_glued x.0), fits_behind b bs rest x.1 f)
+    (first_piece b bs x.1, ap (λ z. z && meet p (lone b.what)) (denied b.is_glued x.0), fits_behind b bs rest x.1 f)
 
 token_fits : (t : Token) → fit_apart (token_bits t) ≡ true
 token_fits (name t) = refl

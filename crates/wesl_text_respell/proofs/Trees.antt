@@ -15,6 +15,7 @@ use Rattle.wesl_text_respell.specs.Respelled.{IsRespelled, ends, same, renamed, 
 use Rattle.wesl_text_respell.proofs.Ended.{nodes_are_ended}
 use Rattle.wesl_text_respell.proofs.Related.{none, like_self, Follows, follows_self, follows_joined, follows_trailing, follows_comma, follows_cut, follows_either}
 use Rattle.std.proofs.lemmas.Bool.{and_parts}
+use Rattle.wesl_text_reading.proofs.Classes.{denied}
 
 -- ---- which rows
 
@@ -90,10 +91,6 @@ target_is l c o row = place_first (is_wildcard l c) (is_tight (class_of (label_a
 
 -- ---- one tree, by what is known of its label
 
-not_so : (b : Bool) → not b ≡ true → b ≡ false
-not_so true h = absurd (no_true h)
-not_so false h = refl
-
 module _ (l m : Label) (c d o p : Forest) (firsts : (s : Sort) → Follows (first_slots l c (spells c) s) (first_slots m d (spells d) s))
     (kinds : (k : Kind) → is_kind k (Some m) ≡ is_kind k (Some l)) (leaves : (f : Leaf) → Follows (leaf_slots f l o) (leaf_slots f m p))
     (inner : (k : Kind) → is_kind k (Some l) ≡ true → same_kind k type_expression ≡ false → TreesFollow c d)
@@ -112,12 +109,12 @@ module _ (l m : Label) (c d o p : Forest) (firsts : (s : Sort) → Follows (firs
   tree_row (run k s row) h =
       let x : (not (same_kind k type_expression) ≡ true) × (is_fair row ≡ true) = and_parts (not (same_kind k type_expression)) (is_fair row) h in
       follows_either (is_kind k (Some l)) (is_kind k (Some m)) (followed ((spells c).all s) ((spells o).row row)) None (followed ((spells d).all s) ((spells p).row row)) None (kinds k)
-      (λ e. follows_joined ((spells c).all s) ((spells d).all s) ((spells o).row row) ((spells p).row row) ((inner k e (not_so (same_kind k type_expression) x.0)).all s) (later.row row x.1)) (λ e. tt)
+      (λ e. follows_joined ((spells c).all s) ((spells d).all s) ((spells o).row row) ((spells p).row row) ((inner k e (denied (same_kind k type_expression) x.0)).all s) (later.row row x.1)) (λ e. tt)
   tree_row (commas k s row) h =
       let x : (not (same_kind k type_expression) ≡ true) × (is_fair row ≡ true) = and_parts (not (same_kind k type_expression)) (is_fair row) h in
       follows_either (is_kind k (Some l)) (is_kind k (Some m)) (followed (option_map trailing ((spells c).separate s)) ((spells o).row row)) None (followed (option_map trailing ((spells d).separate s)) ((spells p).row row)) None (kinds k)
       (λ e. follows_joined (option_map trailing ((spells c).separate s)) (option_map trailing ((spells d).separate s)) ((spells o).row row) ((spells p).row row)
-      (follows_trailing ((spells c).separate s) ((spells d).separate s) ((inner k e (not_so (same_kind k type_expression) x.0)).separate s)) (later.row row x.1)) (λ e. tt)
+      (follows_trailing ((spells c).separate s) ((spells d).separate s) ((inner k e (denied (same_kind k type_expression) x.0)).separate s)) (later.row row x.1)) (λ e. tt)
   tree_row (optional ins row) h =
       let x : (is_fair ins ≡ true) × (is_fair row ≡ true) = and_parts (is_fair ins) (is_fair row) h in
       follows_either (is_kind absent (Some l) && is_end c) (is_kind absent (Some m) && is_end d)
@@ -130,7 +127,7 @@ module _ (l m : Label) (c d o p : Forest) (firsts : (s : Sort) → Follows (firs
       let x : (not (same_kind k type_expression) ≡ true) × ((is_fair ins && is_fair row) ≡ true) = and_parts (not (same_kind k type_expression)) (is_fair ins && is_fair row) h in
       let y : (is_fair ins ≡ true) × (is_fair row ≡ true) = and_parts (is_fair ins) (is_fair row) x.1 in
       follows_either (is_kind k (Some l)) (is_kind k (Some m)) (followed ((spells c).row ins) ((spells o).row row)) None (followed ((spells d).row ins) ((spells p).row row)) None (kinds k)
-      (λ e. follows_joined ((spells c).row ins) ((spells d).row ins) ((spells o).row row) ((spells p).row row) ((inner k e (not_so (same_kind k type_expression) x.0)).row ins y.0) (later.row row y.1)) (λ e. tt)
+      (λ e. follows_joined ((spells c).row ins) ((spells d).row ins) ((spells o).row row) ((spells p).row row) ((inner k e (denied (same_kind k type_expression) x.0)).row ins y.0) (later.row row y.1)) (λ e. tt)
   tree_row (target row) h =
       subst (λ z. Follows z (row_slots m d p (spells d) (spells p) (target row))) (turned (target_is l c o row))
       (subst (λ z. Follows (followed (place l c) ((spells o).row row)) z) (turned (target_is m d p row))

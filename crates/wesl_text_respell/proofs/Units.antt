@@ -151,7 +151,7 @@ behind_there None c h = absurd (no_true h)
 behind_there (Some ss) None h = absurd (no_true h)
 behind_there (Some ss) (Some us) h = refl
 
-where_there : (b : Bool) (x : Slots) → is_some (if b then x else None) ≡ true → (b ≡ true) × (is_some x ≡ true)
+pub where_there : (b : Bool) (x : Slots) → is_some (if b then x else None) ≡ true → (b ≡ true) × (is_some x ≡ true)
 where_there true x h = (refl, h)
 where_there false x h = absurd (no_true h)
 

@@ -1,23 +1,19 @@
 -- What is writable is so under other names.
-use Rattle.std.proofs.Common.{◌≡◌, Bool, true, false, ◌&&◌, if◌then◌else◌, List, [], ◌∷◌, Option, Some, None, option_and_then, is_some, refl, ap, ap₂, ◌∙◌}
+use Rattle.std.proofs.Common.{◌≡◌, Bool, true, false, if◌then◌else◌, List, [], ◌∷◌, Option, Some, None, option_and_then, is_some, refl, ap, ap₂, ◌∙◌}
 use Rattle.wesl_text_tokens.specs.Tokens.{Token, tokens_of_bits}
 use Rattle.wesl_text_form.specs.Slots.{Slot, same_token, fewest}
 use Rattle.wesl_text_form.specs.Spelling.{Slots, slots, slots_as, unit_row}
 use Rattle.wesl_text_form.specs.Says.{are_read_as_meant, bits_apart, same_tokens, as_meant}
 use Rattle.wesl_text_reading.proofs.Filled.{no_true, same_is}
-use Rattle.wesl_text_writable.proofs.Clear.{same_self}
 use Rattle.wesl_text_writable.proofs.MadeApart.{AreMeant, meant_apart}
 use Rattle.wesl_text_respell.specs.Laws.{RespelledUnits, RespelledTrees}
 use Rattle.wesl_text_respell.proofs.Related.{Follows}
 use Rattle.wesl_text_respell.proofs.Follow.{follow}
 use Rattle.wesl_text_respell.proofs.Meant.{meant_like, apart_meant}
 use Rattle.std.proofs.lemmas.Bool.{and_parts}
+use Rattle.wesl_text_writable.proofs.Writable.{same_all}
 
 -- ---- tokens that are read as meant
-
-same_all : (ts : List Token) → same_tokens ts ts ≡ true
-same_all [] = refl
-same_all (t ∷ ts) = ap (λ z. z && same_tokens ts ts) (same_self t) ∙ same_all ts
 
 tokens_are : (ts us : List Token) → same_tokens ts us ≡ true → ts ≡ us
 tokens_are [] [] h = refl

@@ -1,10 +1,10 @@
 -- What is marked in a text are the tokens that are laid out in it.
-use Rattle.std.proofs.Common.{◌≡◌, ℕ, ◌+◌, ◌-◌, Bool, true, false, ◌&&◌, List, [], ◌∷◌, ◌++◌, length, take, drop, Option, Some, None, Result, Ok, Err, Vec, Global, refl, ap, sym, ◌∙◌, append_assoc, length-append, arith, rules}
+use Rattle.std.proofs.Common.{◌≡◌, ℕ, ◌+◌, ◌-◌, Bool, true, false, ◌&&◌, List, [], ◌∷◌, ◌++◌, length, take, drop, Option, Some, None, Result, Ok, Err, Vec, Global, refl, ap, sym, ◌∙◌, append_assoc, length-append, arith}
 use Rattle.std.specs.Prelude.{OnOk, is_err, string_bytes}
 use Rattle.std.proofs.lemmas.Bool.{and_parts}
 use Rattle.std.proofs.lemmas.Slice.Eq.{bytes_eq-Decides}
 use Rattle.std.proofs.Math.Seq.{drop-append_seam, take-append_seam}
-use denote.Enum.Bare.{same_true, true_same}
+use denote.Enum.Bare.{true_same}
 use Rattle.wesl_tree_names.specs.Path.{Text}
 use Rattle.wesl_text_tokens.specs.contracts.symbol.Symbol as symbols
 use Rattle.wesl_text_tokens.specs.Tokens.{Token, name, number, symbol, open_list, close_list, tokens}
@@ -15,6 +15,7 @@ use Rattle.wesl_text_sink.specs.Layout.{Laid, kind_of, laid_tokens, layout, mark
 use Rattle.wesl_text_sink.specs.Filling.{Blanked, Shows}
 use Rattle.wesl_text_sink.specs.declared.sink.TextSink.{TextSink}
 use Rattle.wesl_text_sink.specs.Finished.{IsMisread, IsRead, are_read, is_read_as, tokens_at}
+use Rattle.wesl_text_reading.proofs.Filled.{same_is}
 
 kinds_back : (t : Token) → token_by (kind_of t) (token_text t) ≡ t
 kinds_back (name t) = refl
@@ -52,33 +53,6 @@ marked (l ∷ ls) whole before behind at e w =
     ∙ ap (λ (xs : List Token). l.token ∷ xs) (marked ls whole ((before ++ b) ++ t) behind next all_is (whole_is ∙ sym (append_assoc (before ++ b) t rest)))
 
 -- ---- comparing
-
-same_is : (t u : Token) → same_token t u ≡ true → t ≡ u
-same_is (name a) (name b) e = ap name ((bytes_eq-Decides a b).0 e)
-same_is (number a) (number b) e = ap number ((bytes_eq-Decides a b).0 e)
-same_is (symbol a) (symbol b) e = ap symbol (same_true symbols.the_type (search rules) a b e)
-same_is open_list open_list e = refl
-same_is close_list close_list e = refl
-same_is (name a) (number b) e = absurd (cc e)
-same_is (name a) (symbol b) e = absurd (cc e)
-same_is (name a) open_list e = absurd (cc e)
-same_is (name a) close_list e = absurd (cc e)
-same_is (number a) (name b) e = absurd (cc e)
-same_is (number a) (symbol b) e = absurd (cc e)
-same_is (number a) open_list e = absurd (cc e)
-same_is (number a) close_list e = absurd (cc e)
-same_is (symbol a) (name b) e = absurd (cc e)
-same_is (symbol a) (number b) e = absurd (cc e)
-same_is (symbol a) open_list e = absurd (cc e)
-same_is (symbol a) close_list e = absurd (cc e)
-same_is open_list (name b) e = absurd (cc e)
-same_is open_list (number b) e = absurd (cc e)
-same_is open_list (symbol b) e = absurd (cc e)
-same_is open_list close_list e = absurd (cc e)
-same_is close_list (name b) e = absurd (cc e)
-same_is close_list (number b) e = absurd (cc e)
-same_is close_list (symbol b) e = absurd (cc e)
-same_is close_list open_list e = absurd (cc e)
 
 pub all_same : (ts us : List Token) → same_tokens ts us ≡ true → ts ≡ us
 all_same [] [] e = refl

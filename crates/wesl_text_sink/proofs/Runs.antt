@@ -1,31 +1,27 @@
 -- Characters that are read as one name or one number.
-use Rattle.std.proofs.Common.{◌≡◌, ◌⊎◌, ℕ, ◌+◌, ◌<◌, ◌≤◌, Bool, true, false, ◌&&◌, ◌||◌, ◌==◌, nat_lt, nat_le, if◌then◌else◌, List, [], ◌∷◌, ◌++◌, length, Option, Some, None, Ok, IsUtf8, refl, sym as turned, inl, inr, ap, ◌∙◌, subst, codes, append-nil, append_assoc, length-append, arith}
+use Rattle.std.proofs.Common.{◌≡◌, ℕ, ◌+◌, ◌≤◌, Bool, true, false, ◌&&◌, ◌||◌, ◌==◌, nat_lt, if◌then◌else◌, List, [], ◌∷◌, ◌++◌, length, Option, Some, None, Ok, IsUtf8, refl, sym as turned, ap, ◌∙◌, subst, append_assoc, length-append, arith}
 use Rattle.std.proofs.lemmas.Bool.{and_from, and_parts, false≢true}
-use Rattle.std.proofs.lemmas.Bool.Decides.{leb_tells}
 use Rattle.std.proofs.lemmas.Slice.Eq.{bytes_eq-Decides}
-use Rattle.std.proofs.lemmas.Str.{scalars-chars, encodes-append, encode_ascii, length-encode, len_utf8_ascii}
-use lib.Utf8.{scalar, scalars, encode, encodes, low_scalar}
+use Rattle.std.proofs.lemmas.Str.{scalars-chars, encodes-append, length-encode, len_utf8_ascii}
+use lib.Utf8.{scalar, scalars, encodes}
 use Rattle.std.specs.Char.{len_utf8}
 use Rattle.std.specs.Str.{chars}
 use Rattle.wesl_tree_names.specs.Path.{Text}
-use Rattle.wesl_text_tokens.specs.Characters.{is_one_of, is_from, is_digit, is_hex, begins_name, goes_on_name, bytes_of}
+use Rattle.wesl_text_tokens.specs.Characters.{is_one_of, is_digit, begins_name, goes_on_name, bytes_of}
 use Rattle.wesl_text_tokens.specs.Numbers.{goes_on, is_whole_number}
-use Rattle.wesl_text_tokens.specs.Pieces.{a_name, Mode, gap, in_name, in_number, in_sign, Step, on, begun, ended, at_number, at_sign, step, and_then, read_from}
+use Rattle.wesl_text_tokens.specs.Pieces.{a_name, Mode, gap, in_name, in_number, in_sign, Step, on, begun, ended, at_number, at_sign, step, read_from}
 use Rattle.wesl_text_tokens.specs.Tokens.{Token, name, number, symbol, open_list, close_list, tokens}
-use Rattle.wesl_text_tokens.proofs.Steps.{nothing_before, bytes_of_is}
+use Rattle.wesl_text_tokens.proofs.Steps.{bytes_of_is}
 use Rattle.wesl_text_form.specs.Names.{is_alone, is_number, is_word}
 use Rattle.wesl_text_sink.specs.Touching.{first_of}
-use Rattle.wesl_text_reading.proofs.Filled.{no_some}
 use Rattle.wesl_text_sound.proofs.TokensHold.{Digits, AllHold, Characters, tokens_hold}
+use Rattle.wesl_text_sound.proofs.Alone.{digit_low, goes_low, low_encoded, low_more, low_scalars, on_step, one_encoded, other_high, scalars_and}
 
 -- ---- characters that are read in a mode
 
 -- at each place, before all characters, these are what is read in a mode, so many bytes further
 abbrev pub Runs : List ℕ → ℕ → (ℕ → Mode) → Type 0
 Runs cs n m = (at : ℕ) (rest : List ℕ) → read_from gap at (cs ++ rest) ≡ read_from (m at) (at + n) rest
-
-on_step : (m n : Mode) (at c : ℕ) (rest : List ℕ) → step m at c ≡ on n → read_from m at (c ∷ rest) ≡ read_from n (at + len_utf8 c) rest
-on_step m n at c rest e = ap (λ s. and_then s (λ k. read_from k (at + len_utf8 c) rest)) e ∙ nothing_before (read_from n (at + len_utf8 c) rest)
 
 pub run_one : (c n : ℕ) (m : ℕ → Mode) → len_utf8 c ≡ n → ((at : ℕ) → begun at c ≡ Ok (m at)) → Runs (c ∷ []) n m
 run_one c n m w b at rest =
@@ -51,15 +47,8 @@ pub record NameRuns (t : Text) : Type 0 where
 abbrev IsCharacter : ℕ → Type 0
 IsCharacter c = scalar c ≡ true
 
-one_encoded : (c : ℕ) → encodes (c ∷ []) ≡ bytes_of c
-one_encoded c = append-nil (encode c) ∙ turned (bytes_of_is c)
-
 bytes_length : (c : ℕ) → len_utf8 c ≡ length (bytes_of c)
 bytes_length c = turned (length-encode c) ∙ ap length (turned (bytes_of_is c))
-
-scalars_and : (cs ds : List ℕ) → scalars cs ≡ true → scalars ds ≡ true → scalars (cs ++ ds) ≡ true
-scalars_and [] ds h g = g
-scalars_and (c ∷ cs) ds h g = let x : (scalar c ≡ true) × (scalars cs ≡ true) = and_parts (scalar c) (scalars cs) h in and_from (scalar c) (scalars (cs ++ ds)) x.0 (scalars_and cs ds x.1 g)
 
 first_stays : (cs ds : List ℕ) → begins_name (first_of cs) ≡ true → begins_name (first_of (cs ++ ds)) ≡ true
 first_stays [] ds h = absurd (false≢true h)
@@ -98,29 +87,11 @@ pub record NumberRuns (t : Text) (d : Digits) : Type 0 where
   pub run : Runs t (length t) (λ at. in_number at t d)
   pub begin : begins_number (first_of t) ≡ true
 
-low_encoded : (c : ℕ) → c < 128 → encodes (c ∷ []) ≡ c ∷ []
-low_encoded c l = append-nil (encode c) ∙ encode_ascii c l
-
-low_scalars : (c : ℕ) → c < 128 → scalars (c ∷ []) ≡ true
-low_scalars c l = and_from (scalar c) true (low_scalar c (omega arith)) refl
-
 -- ---- a number goes on with low characters alone
-
-from_high : (low high c : ℕ) → high < 128 → 128 ≤ c → is_from low high c ≡ false
-from_high low high c l h = grind arith
-
-digit_high : (c : ℕ) → 128 ≤ c → is_digit c ≡ false
-digit_high c h = from_high 48 57 c (omega arith) h
-
-hex_high : (c : ℕ) → 128 ≤ c → is_hex c ≡ false
-hex_high c h = ap (λ z. z || is_from 65 70 c || is_from 97 102 c) (digit_high c h) ∙ (ap (λ z. z || is_from 97 102 c) (from_high 65 70 c (omega arith) h) ∙ from_high 97 102 c (omega arith) h)
 
 abbrev all_low : List ℕ → Bool
 all_low [] = true
 all_low (d ∷ ds) = nat_lt d 128 && all_low ds
-
-other_high : (d c : ℕ) → nat_lt d 128 ≡ true → 128 ≤ c → (c == d) ≡ false
-other_high d c l h = grind arith
 
 among_high : (ds : List ℕ) (c : ℕ) → all_low ds ≡ true → 128 ≤ c → is_one_of ds c ≡ false
 among_high [] c a h = refl
@@ -129,27 +100,6 @@ among_high (d ∷ ds) c a h =
     ap (λ z. z || is_one_of ds c) (other_high d c x.0 h) ∙ among_high ds c x.1 h
 
 -- where no test holds, the number ends
-goes_none : (d : Digits) (c : ℕ) → is_digit c ≡ false → is_hex c ≡ false → (c == 46) ≡ false → is_one_of (codes "eE") c ≡ false → is_one_of (codes "xX") c ≡ false → is_one_of (codes "iufh") c ≡ false → is_one_of (codes "fh") c ≡ false
-    → is_one_of (codes "+-") c ≡ false → is_one_of (codes "pP") c ≡ false → is_one_of (codes "iu") c ≡ false → goes_on d c ≡ None
-goes_none d c h1 h2 h3 h4 h5 h6 h7 h8 h9 h0 = grind arith
-
-goes_high : (d : Digits) (c : ℕ) → 128 ≤ c → goes_on d c ≡ None
-goes_high d c h =
-    let among : (ds : List ℕ) → all_low ds ≡ true → is_one_of ds c ≡ false = λ ds a. among_high ds c a h in
-    goes_none d c (digit_high c h) (hex_high c h) (other_high 46 c refl h) (among (codes "eE") refl) (among (codes "xX") refl) (among (codes "iufh") refl) (among (codes "fh") refl) (among (codes "+-") refl) (among (codes "pP") refl) (among (codes "iu") refl)
-
-goes_low : (d e : Digits) (c : ℕ) → goes_on d c ≡ Some e → c < 128
-goes_low d e c h = by (leb_tells 128 c) where
-  by : ((nat_le 128 c ≡ true) × (128 ≤ c)) ⊎ ((nat_le 128 c ≡ false) × (c < 128)) → c < 128
-  by (inl x) = absurd (no_some e (turned (goes_high d c x.1) ∙ h))
-  by (inr x) = x.1
-
-digit_low : (c : ℕ) → is_digit c ≡ true → c < 128
-digit_low c h = by (leb_tells 128 c) where
-  by : ((nat_le 128 c ≡ true) × (128 ≤ c)) ⊎ ((nat_le 128 c ≡ false) × (c < 128)) → c < 128
-  by (inl x) = absurd (false≢true (turned (digit_high c x.1) ∙ h))
-  by (inr x) = x.1
-
 number_begins : (c : ℕ) (d : Digits) → ((at : ℕ) → begun at c ≡ Ok (in_number at (c ∷ []) d)) → is_digit c ≡ true → NumberRuns (c ∷ []) d
 number_begins c d b h = record {
   are_scalars = low_scalars c (digit_low c h);
@@ -159,9 +109,6 @@ number_begins c d b h = record {
 }
 
 -- one more byte
-low_more : (t : Text) (c : ℕ) → c < 128 → scalars t ≡ true → encodes t ≡ t → (scalars (t ++ c ∷ []) ≡ true) × (encodes (t ++ c ∷ []) ≡ t ++ c ∷ [])
-low_more t c l s e = (scalars_and t (c ∷ []) s (low_scalars c l), encodes-append t (c ∷ []) ∙ (ap (λ z. z ++ encodes (c ∷ [])) e ∙ ap (λ z. t ++ z) (low_encoded c l)))
-
 number_pointed : (c : ℕ) (d : Digits) → ((s at : ℕ) → at_sign s 46 at c ≡ on (in_number s (46 ∷ c ∷ []) d)) → is_digit c ≡ true → NumberRuns (46 ∷ c ∷ []) d
 number_pointed c d k h =
     let x : (scalars (46 ∷ c ∷ []) ≡ true) × (encodes (46 ∷ c ∷ []) ≡ 46 ∷ c ∷ []) = low_more (46 ∷ []) c (digit_low c h) refl (low_encoded 46 (omega arith)) in

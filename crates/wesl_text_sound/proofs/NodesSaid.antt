@@ -1,12 +1,12 @@
 -- What is read as a node of a sort is said there, where its children are.
-use Rattle.std.proofs.Common.{◌≡◌, zero, suc, Bool, true, false, not, ◌&&◌, ◌||◌, if◌then◌else◌, List, [], ◌∷◌, Option, Some, None, option_and_then, option_map, refl, sym as turned, ap, ◌∙◌, subst, append-nil}
+use Rattle.std.proofs.Common.{◌≡◌, zero, suc, Bool, true, false, not, ◌&&◌, ◌||◌, if◌then◌else◌, List, [], ◌∷◌, Option, Some, None, option_and_then, option_map, refl, sym as turned, ap, ◌∙◌, subst}
 use Rattle.wesl_tree_names.specs.Path.{Text}
 use Rattle.wesl_tree_syntax.specs.Kinds.{same_kind}
 use Rattle.wesl_tree_syntax.specs.Tree.{Kind, kind, at, unary, binary, assignment, space, access, end, TreeOf, before, expression_node, statement_node, attribute_node, member_node, import_node, directive_node, declaration_node}
 use Rattle.wesl_tree_syntax.specs.declared.statement.AssignmentOperator.TheVariants as assignment_operator
 use Rattle.wesl_text_tokens.specs.Tokens.{Token}
 use Rattle.wesl_text_form.specs.Productions.{Sort, an_expression, a_bare_expression, an_attribute, a_bare_attribute, a_space, an_access, an_import, a_bare_import, a_directive, a_bare_directive, a_member, a_bare_member, a_statement, a_bare_statement, a_declaration, a_bare_declaration, Row, Rows, nothing, own, row_at, rows_of, rows_of_bare_statement, row_of, spanned}
-use Rattle.wesl_text_form.specs.Spelling.{Label, Forest, Slots, spells, followed, first_slots, fits, stands_as, is_simple, without_last}
+use Rattle.wesl_text_form.specs.Spelling.{Label, Forest, spells, followed, first_slots, fits, stands_as, is_simple, without_last}
 use Rattle.wesl_text_reading.specs.Leaves.{Read, after, where_so}
 use Rattle.wesl_text_reading.specs.Reading.{Reader, node_of, label_first, read_row, read_node, without_end, read_part, node}
 use Rattle.wesl_text_reading.proofs.Filled.{no_some, of_some, no_true, fill}
@@ -17,6 +17,7 @@ use Rattle.wesl_text_sound.proofs.TakenApart.{with_rest, after_some, where_some,
 use Rattle.wesl_text_sound.proofs.ListsSaid.{NodeSaid, IsSound, IsSoundPart, RowSaid}
 use Rattle.wesl_text_sound.proofs.RowsSaid.{is_said, row_said}
 use Rattle.std.proofs.lemmas.Bool.{and_parts}
+use Rattle.wesl_text_reading.proofs.ForParts.{alone_again}
 
 -- ---- all rows
 
@@ -71,10 +72,6 @@ simple_row child (kind k) r h e = such_row (λ j. is_simple (Some (kind j))) (ma
 simple_row child l r h e = absurd (no_true e)
 
 -- slots before none
-none_behind : (a : Slots) → followed a (Some []) ≡ a
-none_behind None = refl
-none_behind (Some ss) = ap (λ z. Some z) (append-nil ss)
-
 -- ---- nodes
 
 module _ (child : Sort → Reader) (nodes : (s : Sort) → IsSound (child s) s) where
@@ -102,7 +99,7 @@ module _ (child : Sort → Reader) (nodes : (s : Sort) → IsSound (child s) s) 
       unended_slots : (r : Row) (c : Forest) → row_of a_bare_statement l ≡ Some r → (fits l c && stands_as a_bare_statement l c) ≡ true → ends_with r ≡ true
           → option_map without_last (followed (first_slots l c (spells c) a_bare_statement) (Some [])) ≡ (spells c).row (without_end child r)
       unended_slots r c e f d =
-          ap (option_map without_last) (none_behind (first_slots l c (spells c) a_bare_statement)
+          ap (option_map without_last) (alone_again (first_slots l c (spells c) a_bare_statement)
           ∙ (ap (λ o. option_and_then (λ r. if fits l c && stands_as a_bare_statement l c then (spells c).row r else None) o) e
           ∙ (ap (λ b. if b then (spells c).row r else None) f ∙ splits child c r d)))
           ∙ ends_gone ((spells c).row (without_end child r))

@@ -1,16 +1,16 @@
 -- What is read by a row is said by the row.
-use Rattle.std.proofs.Common.{◌≡◌, zero, Bool, true, false, not, ◌&&◌, if◌then◌else◌, List, [], ◌∷◌, length, Some, None, option_and_then, option_map, refl, sym as turned, ap, ◌∙◌, subst, codes, bytes_eq}
+use Rattle.std.proofs.Common.{◌≡◌, Bool, true, false, not, ◌&&◌, if◌then◌else◌, List, [], ◌∷◌, length, Some, None, option_and_then, option_map, refl, sym as turned, ap, ◌∙◌, subst, codes, bytes_eq}
 use Rattle.std.specs.Str.{chars}
 use Rattle.std.proofs.lemmas.Slice.Eq.{bytes_eq-Decides}
 use Rattle.wesl_tree_names.specs.Path.{Text}
-use Rattle.wesl_tree_syntax.specs.Tree.{binder, reference, word, ident, kind, at, end, tree, TreeOf, before, leaf as tree_leaf, branch, present, absent, list, default_case, expression_node, type_or_identifier, type_expression}
+use Rattle.wesl_tree_syntax.specs.Tree.{binder, word, kind, end, tree, TreeOf, before, leaf as tree_leaf, branch, present, absent, list}
 use Rattle.wesl_text_tokens.specs.declared.symbol.Symbol.{Symbol}
 use Rattle.wesl_text_tokens.specs.declared.symbol.Symbol.TheVariants as is
 use Rattle.wesl_text_tokens.specs.Tokens.{Token, name, symbol, open_list, close_list}
 use Rattle.wesl_text_form.specs.Slots.{must, may, alone, same_token, behind_token, behind_if_there, comes_first, left}
 use Rattle.wesl_text_form.specs.Productions.{Sort, an_expression, a_selector, a_statement, Leaf, an_item, a_path, Row, nothing, sym, may_sym, says, opens, closes, own, leaf, run, commas, optional, inside, target, selectors, unended, arrow}
 use Rattle.wesl_text_form.specs.Operators.{class_of, is_tight}
-use Rattle.wesl_text_form.specs.Spelling.{Label, Forest, Slots, spells, followed, named, signed, is_absent_at, item_role, trailing, leaf_slots, first_slots, row_slots, label_at, is_kind, is_wildcard, is_underscore, leads_to_place, is_lone_default, without_last, is_end}
+use Rattle.wesl_text_form.specs.Spelling.{Label, Forest, Slots, spells, followed, named, signed, is_absent_at, item_role, trailing, leaf_slots, first_slots, row_slots, label_at, is_kind, is_wildcard, leads_to_place, is_lone_default, without_last, is_end}
 use Rattle.wesl_text_reading.specs.Leaves.{Read, after, where_so, item_role_by, read_leaf}
 use Rattle.wesl_text_reading.specs.FirstTokens.{begins_word, begins_sign, behind_first}
 use Rattle.wesl_text_reading.specs.Reading.{Reader, node_of, and_others, all_of, separate_of, begins_child, begins_row, wildcard, read_target, lone_default, read_selectors, read_row}
@@ -24,6 +24,8 @@ use Rattle.wesl_text_sound.proofs.LeavesSaid.{LeafSaid, item_said, leaf_said}
 use Rattle.wesl_text_sound.proofs.PathsSaid.{path_said}
 use Rattle.wesl_text_sound.proofs.ListsSaid.{IsSound, IsSoundPart, RowSaid, kind_self, all_said, is_first, separate_said}
 use Rattle.std.proofs.lemmas.Bool.{and_parts}
+use Rattle.wesl_text_reading.proofs.Clauses.{lone_is}
+use Rattle.wesl_text_reading.proofs.Simple.{wild_is}
 
 -- ---- which rows
 
@@ -86,17 +88,6 @@ closes_row end row = refl
 closes_row (tree l c o) row = refl
 
 -- `_` is one tree
-wild_word : (m : Label) → is_underscore m ≡ true → m ≡ ident reference (codes "_")
-wild_word (ident reference t) h = ap (λ z. let l : Label = ident reference z in l) ((bytes_eq-Decides t (codes "_")).0 h)
-wild_word (ident binder t) h = absurd (no_true h)
-wild_word (ident word t) h = absurd (no_true h)
-wild_word l h = absurd (no_true h)
-
-wild_is : (child : Sort → Reader) (l : Label) (c : Forest) → is_wildcard l c ≡ true → node_of l c ≡ wildcard child
-wild_is child (at expression_node zero zero) (tree (kind type_or_identifier) (tree (kind type_expression) (tree (kind absent) end (tree m end (tree (kind absent) end end))) end) end) h =
-    ap (λ z. node_of (at expression_node 0 0) (tree (kind type_or_identifier) (tree (kind type_expression) (tree (kind absent) end (tree z end (tree (kind absent) end end))) end) end)) (wild_word m h)
-wild_is child l c h = absurd (no_true h)
-
 -- no expression is `_`
 no_underscore : (child : Sort → Reader) (ts us : List Token) → fill (first_slots (wildcard child).label (wildcard child).children (spells (wildcard child).children) an_expression) ts ≡ Some us → ⊥
 unfolding chars
@@ -107,10 +98,6 @@ not_wild child l c ts us h = by (is_wildcard l c) refl where
   by : (b : Bool) → is_wildcard l c ≡ b → b ≡ false
   by false e = refl
   by true e = absurd (no_underscore child ts us (subst (λ t. fill (first_slots t.label t.children (spells t.children) an_expression) ts ≡ Some us) (wild_is child l c e) h))
-
-lone_is : (child : Sort → Reader) (f : Forest) → is_lone_default f ≡ true → f ≡ lone_default child
-lone_is child (tree (kind default_case) end end) h = refl
-lone_is child f h = absurd (no_true h)
 
 module _ (child : Sort → Reader) (part : Sort → Reader) (nodes : (s : Sort) → IsSound (child s) s) (parted : IsSoundPart (part a_statement)) where
   -- what was read, and others behind it

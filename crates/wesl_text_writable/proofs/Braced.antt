@@ -10,6 +10,7 @@ use Rattle.wesl_text_tokens.specs.Tokens.{Token, symbol}
 use Rattle.wesl_text_form.specs.Slots.{Slot, must, may, alone}
 use Rattle.wesl_text_form.specs.Says.{token_bits}
 use Rattle.wesl_text_reading.proofs.Filled.{no_true}
+use Rattle.wesl_text_reading.proofs.Classes.{denied}
 
 -- ---- two runs, of which one knows of `<` from before
 
@@ -75,23 +76,19 @@ is_level zero (a_sign s) = not (bytes_eq s (codes "(") || bytes_eq s (codes "[")
 is_level (suc n) (a_sign s) = not (bytes_eq s (codes "(") || bytes_eq s (codes "[")) && not (bytes_eq s (codes ")") || bytes_eq s (codes "]"))
 is_level n w = true
 
-not_so : (b : Bool) → not b ≡ true → b ≡ false
-not_so true h = absurd (no_true h)
-not_so false h = refl
-
 no_paren : (n : ℕ) (s : Text) → is_level n (a_sign s) ≡ true → ((bytes_eq s (codes "(") || bytes_eq s (codes "[")) ≡ false) × ((bytes_eq s (codes ")") || bytes_eq s (codes "]")) ≡ false)
 no_paren zero s h =
     let x : (not (bytes_eq s (codes "(") || bytes_eq s (codes "[")) ≡ true) × ((not (bytes_eq s (codes ")") || bytes_eq s (codes "]")) && not (bytes_eq s (codes ">"))) ≡ true) = and_parts (not (bytes_eq s (codes "(") || bytes_eq s (codes "["))) (not (bytes_eq s (codes ")") || bytes_eq s (codes "]")) && not (bytes_eq s (codes ">"))) h in
-    (not_so (bytes_eq s (codes "(") || bytes_eq s (codes "[")) x.0, not_so (bytes_eq s (codes ")") || bytes_eq s (codes "]")) (and_parts (not (bytes_eq s (codes ")") || bytes_eq s (codes "]"))) (not (bytes_eq s (codes ">"))) x.1).0)
+    (denied (bytes_eq s (codes "(") || bytes_eq s (codes "[")) x.0, denied (bytes_eq s (codes ")") || bytes_eq s (codes "]")) (and_parts (not (bytes_eq s (codes ")") || bytes_eq s (codes "]"))) (not (bytes_eq s (codes ">"))) x.1).0)
 no_paren (suc n) s h =
     let x : (not (bytes_eq s (codes "(") || bytes_eq s (codes "[")) ≡ true) × (not (bytes_eq s (codes ")") || bytes_eq s (codes "]")) ≡ true) = and_parts (not (bytes_eq s (codes "(") || bytes_eq s (codes "["))) (not (bytes_eq s (codes ")") || bytes_eq s (codes "]"))) h in
-    (not_so (bytes_eq s (codes "(") || bytes_eq s (codes "[")) x.0, not_so (bytes_eq s (codes ")") || bytes_eq s (codes "]")) x.1)
+    (denied (bytes_eq s (codes "(") || bytes_eq s (codes "[")) x.0, denied (bytes_eq s (codes ")") || bytes_eq s (codes "]")) x.1)
 
 -- `>` stands in parentheses alone
 greater_within : (n : ℕ) (s : Text) → is_level n (a_sign s) ≡ true → bytes_eq s (codes ">") ≡ true → 0 < n
 greater_within zero s h g =
     let x : (not (bytes_eq s (codes "(") || bytes_eq s (codes "[")) ≡ true) × ((not (bytes_eq s (codes ")") || bytes_eq s (codes "]")) && not (bytes_eq s (codes ">"))) ≡ true) = and_parts (not (bytes_eq s (codes "(") || bytes_eq s (codes "["))) (not (bytes_eq s (codes ")") || bytes_eq s (codes "]")) && not (bytes_eq s (codes ">"))) h in
-    absurd (no_true (turned (not_so (bytes_eq s (codes ">")) (and_parts (not (bytes_eq s (codes ")") || bytes_eq s (codes "]"))) (not (bytes_eq s (codes ">"))) x.1).1) ∙ g))
+    absurd (no_true (turned (denied (bytes_eq s (codes ">")) (and_parts (not (bytes_eq s (codes ")") || bytes_eq s (codes "]"))) (not (bytes_eq s (codes ">"))) x.1).1) ∙ g))
 greater_within (suc n) s h g = omega arith
 
 module _ (i : ℕ) (next : Text) (n e : ℕ) (before : List (ℕ × ℕ)) (within : Within e before) where

@@ -1,5 +1,5 @@
 -- What is printed for a tree has no comma or colon behind one that may stand.
-use Rattle.std.proofs.Common.{◌≡◌, zero, suc, Bool, true, false, not, ◌&&◌, ◌||◌, if◌then◌else◌, List, [], ◌∷◌, ◌++◌, length, Some, None, option_map, refl, sym as turned, ap, ◌∙◌, subst, append-nil, codes, nat_le, ◌⊎◌, inl, inr}
+use Rattle.std.proofs.Common.{◌≡◌, zero, suc, Bool, true, false, not, ◌&&◌, ◌||◌, if◌then◌else◌, List, [], ◌∷◌, ◌++◌, length, Some, None, option_map, refl, sym as turned, ap, ◌∙◌, subst, codes, nat_le, ◌⊎◌, inl, inr}
 use Rattle.wesl_tree_base.specs.Pieces.{cut, supers}
 use Rattle.wesl_tree_names.specs.Path.{Text, Origin, absolute, relative, from_package}
 use Rattle.wesl_tree_syntax.specs.Tree.{Kind, kind, at, ident, text, texts, truth, path, unary, binary, assignment, space, access, end, tree, present, absent, list, attributes, for_loop, expression_node, statement_node, attribute_node, member_node, import_node, directive_node, declaration_node}
@@ -23,6 +23,7 @@ use Rattle.wesl_text_writable.proofs.BodyTrees.{braced_followed, body_braced}
 use Rattle.wesl_text_writable.proofs.KnownApart.{touches}
 use Rattle.wesl_text_writable.proofs.HardTrees.{is_hard, of_provided, of_either, of_node, rows_are_hard}
 use Rattle.std.proofs.lemmas.Bool.{and_parts}
+use Rattle.wesl_text_reading.proofs.ForParts.{alone_again, no_slots}
 
 -- ---- which rows
 
@@ -319,14 +320,6 @@ for_label l e = absurd (no_true e)
 
 -- ---- nodes, and what stands behind them
 
-none_behind : (a : Slots) → followed a (Some []) ≡ a
-none_behind None = refl
-none_behind (Some ss) = ap (λ z. Some z) (append-nil ss)
-
-no_more : (a : Slots) → followed a None ≡ None
-no_more None = refl
-no_more (Some ss) = refl
-
 -- the row of a statement with its span
 statement_row : (l : Label) (r : Row) → row_of a_statement l ≡ Some r → own a_bare_statement nothing ≡ r
 statement_row (at k zero zero) r h = by (same_kind statement_node k) h where
@@ -363,14 +356,14 @@ module _ (l : Label) (c o : Forest) (below : TreesClear c) (inner : BelowClear c
     by : (c : Forest) → TreesClear c → is_simple (label_at 0 c) ≡ true → are_clear false (option_map without_last ((spells c).row (own a_bare_statement nothing))) ≡ true
     by end h g = refl
     by (tree m d end) h g = h.bare g
-    by (tree m d (tree n k p)) h g = ap (λ z. are_clear false (option_map without_last z)) (no_more (first_slots m d (spells d) a_bare_statement))
+    by (tree m d (tree n k p)) h g = ap (λ z. are_clear false (option_map without_last z)) (no_slots (first_slots m d (spells d) a_bare_statement))
 
   bare_is_clear : BareClear (tree l c o)
   bare_is_clear e = of_node (λ a. are_clear false (option_map without_last (followed a (Some [])))) a_bare_statement l c refl by where
     by : (r : Row) → row_of a_bare_statement l ≡ Some r → are_clear false (option_map without_last (followed ((spells c).row r) (Some []))) ≡ true
     by r h =
         let x : (ends_with r ≡ true) × (is_clear false (without_end no_child r) ≡ true) = and_parts (ends_with r) (is_clear false (without_end no_child r)) (simple_row l r h e) in
-        ap (are_clear false) (ap (λ z. option_map without_last z) (none_behind ((spells c).row r) ∙ splits no_child c r x.0) ∙ ends_gone ((spells c).row (without_end no_child r)))
+        ap (are_clear false) (ap (λ z. option_map without_last z) (alone_again ((spells c).row r) ∙ splits no_child c r x.0) ∙ ends_gone ((spells c).row (without_end no_child r)))
         ∙ below.row (without_end no_child r) false x.1
 
   tree_clear : RowsClear (tree l c o)

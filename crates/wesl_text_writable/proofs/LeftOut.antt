@@ -35,7 +35,7 @@ before_of : (ts : List Token) (i : ℕ) (k : Known) → Before i k → Before (n
 before_of [] i k b = b
 before_of (t ∷ ts) i k b = before_of ts (number_behind i (token_bits t)) (known_from i k (token_bits t)) (before_joined (token_bits t) i k b)
 
-first_bracketed : (final : Known) (ts us : List Token) (i : ℕ) → AllBracketed final i (ts ++ us) → AllBracketed final i ts
+pub first_bracketed : (final : Known) (ts us : List Token) (i : ℕ) → AllBracketed final i (ts ++ us) → AllBracketed final i ts
 first_bracketed final [] us i a = tt
 first_bracketed final (t ∷ ts) us i a = (a.0, first_bracketed final ts us (number_behind i (token_bits t)) a.1)
 
@@ -47,7 +47,7 @@ both_bracketed : (final : Known) (ts us : List Token) (i : ℕ) → AllBracketed
 both_bracketed final [] us i a b = b
 both_bracketed final (t ∷ ts) us i a b = (a.0, both_bracketed final ts us (number_behind i (token_bits t)) a.1 b)
 
-behind_le : (bs : List Bit) (i : ℕ) → i ≤ number_behind i bs
+pub behind_le : (bs : List Bit) (i : ℕ) → i ≤ number_behind i bs
 behind_le [] i = omega arith
 behind_le (b ∷ bs) i = omega (arith, behind_le bs (suc i))
 

@@ -17,7 +17,7 @@ abbrev Printed : List Slot → Type 0
 Printed ss = (done ts : List Token) → is_clear_before true ss ≡ true → left ss ts ≡ Some [] → AreMeant (done ++ ts) → AreMeant (done ++ fewest ss)
 
 -- a token stays
-moved : (done : List Token) (t : Token) (ts : List Token) → (done ++ t ∷ []) ++ ts ≡ done ++ t ∷ ts
+pub moved : (done : List Token) (t : Token) (ts : List Token) → (done ++ t ∷ []) ++ ts ≡ done ++ t ∷ ts
 moved done t ts = append_assoc done (t ∷ []) ts
 
 one_more : (t : Token) (ss : List Slot) (done vs : List Token) → Printed ss → is_clear_before true ss ≡ true → left ss vs ≡ Some [] → AreMeant (done ++ t ∷ vs) → AreMeant (done ++ t ∷ fewest ss)

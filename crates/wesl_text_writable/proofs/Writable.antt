@@ -14,7 +14,7 @@ use Rattle.wesl_text_writable.proofs.Quiet.{filled_quiet}
 use Rattle.wesl_text_writable.proofs.MadeApart.{AreMeant, text_meant, meant_apart}
 use Rattle.wesl_text_writable.proofs.Printed.{fewest_meant}
 
-same_all : (ts : List Token) → same_tokens ts ts ≡ true
+pub same_all : (ts : List Token) → same_tokens ts ts ≡ true
 same_all [] = refl
 same_all (t ∷ ts) = ap (λ z. z && same_tokens ts ts) (same_self t) ∙ same_all ts
 

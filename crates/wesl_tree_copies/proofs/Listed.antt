@@ -23,7 +23,7 @@ joined_end : (ts : List Tree) → joined ts end ≡ forest_of ts
 joined_end [] = refl
 joined_end (t ∷ ts) = ap (before t) (joined_end ts)
 
-drop_past : {A : Type 0} (xs : List A) (i : ℕ) → length xs ≤ i → drop i xs ≡ []
+pub drop_past : {A : Type 0} (xs : List A) (i : ℕ) → length xs ≤ i → drop i xs ≡ []
 drop_past xs i h = grind (arith, common_steps)
 
 -- the nodes `A` are copied as `C`

@@ -45,7 +45,7 @@ label_of : (x : Expression) → (expression_view x).label ≡ label_at (out-Expr
 label_of x = ap (λ y. (expression_view y).label) (sym (roll-out-Expression x)) ∙ label_of_roll (out-Expression x)
 
 -- trees with unlike labels
-by_labels : (places : Bool) (f g : ℕ → Text) (s t : Tree) (l m : Label) → s.label ≡ l → t.label ≡ m → same_label places f g l m ≡ false → false ≡ same_tree places f g s t
+pub by_labels : (places : Bool) (f g : ℕ → Text) (s t : Tree) (l m : Label) → s.label ≡ l → t.label ≡ m → same_label places f g l m ≡ false → false ≡ same_tree places f g s t
 by_labels places f g s t l m d e h = rw (d, e, h) refl
 
 module _ (places : Bool) (f g : ℕ → Text) where

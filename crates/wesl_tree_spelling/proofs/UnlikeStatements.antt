@@ -25,6 +25,7 @@ use Rattle.wesl_tree_syntax.specs.declared.statement.Statement.TheViews.{roll-ou
 use Rattle.wesl_tree_spelling.specs.Groups.{is_jump, is_step, is_action, is_if, is_switch, is_plain_loop, is_for}
 use Rattle.wesl_tree_spelling.specs.Same.{same_label, same_tree}
 use mathlib.Core.Bool.{and-false}
+use Rattle.wesl_tree_spelling.proofs.UnlikeExpressions.{by_labels}
 
 abbrev Attributes : Type 0
 Attributes = Vec (Spanned Attribute) Global
@@ -81,9 +82,6 @@ label_made : (x : Statement) (layer : Layer) → x ≡ roll-Statement layer → 
 label_made x layer is = ap (λ y. (statement_view y).label) is ∙ label_rolled layer
 
 -- trees with unlike labels
-by_labels : (places : Bool) (f g : ℕ → Text) (s t : Tree) (l m : Label) → s.label ≡ l → t.label ≡ m → same_label places f g l m ≡ false → false ≡ same_tree places f g s t
-by_labels places f g s t l m d e h = rw (d, e, h) refl
-
 -- where the left one is of no group, and where the two differ
 pub group_left : (test : Label → Bool) (s : Tree) (b : Bool) → test s.label ≡ false → false ≡ (test s.label && b)
 group_left test s b h = rw h refl

@@ -15,7 +15,7 @@ use Rattle.wesl_validate_calls.specs.Verdicts.{IsVerdict, AreMisfits, AreMisfits
 use Rattle.wesl_validate_calls.specs.declared.calls.Call.{Call}
 use Rattle.wesl_validate_calls.specs.declared.misfit.Misfit.{Misfit}
 use Rattle.wesl_validate_calls.proofs.Gathering.{calls_at}
-use Rattle.wesl_validate_calls.proofs.Shaping.{listed_count}
+use Rattle.wesl_scope_strip.proofs.Keeping.{trees_count}
 
 -- one call after the other
 module _ (j : ℕ) where
@@ -51,6 +51,6 @@ module _ (u : UnitView) (b : BuiltinNames) where
 
     pub all_misfits : (j : ℕ) (ms : List (ℕ × Misfit)) → length v.items ≤ j → j ≤ length v.items → AreMisfitsAmong u b (calls_below u j) ms → AreMisfits u b ms
     all_misfits j ms h k are =
-        let counts : count u ≡ length v.items = sym (ap (λ t. length (trees t.children)) same) ∙ listed_count (placed global_view declaration_node) v.items in
+        let counts : count u ≡ length v.items = sym (ap (λ t. length (trees t.children)) same) ∙ trees_count (placed global_view declaration_node) v.items in
         let is : j ≡ count u = omega (arith, h, k, counts) in
         subst (λ n. AreMisfitsAmong u b (calls_below u n) ms) is are

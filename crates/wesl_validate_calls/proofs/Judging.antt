@@ -20,6 +20,7 @@ use Rattle.wesl_validate_calls.specs.declared.misfit.Misfit.TheVariants as misfi
 use Rattle.wesl_validate_calls.proofs.Members.{contains_none, contains_here}
 use Rattle.wesl_validate_calls.proofs.Searching.{any_from, any_to, some_from, none_from, same_first}
 use Rattle.std.proofs.lemmas.Bool.{and_from, and_parts, not_from_false, or_left, or_right}
+use Rattle.wesl_scope_strip.proofs.Keeping.{not_true}
 
 pub no : {P : Type 0} → false ≡ true → P
 no e = absurd (let f : false ≡ true = e in cc)
@@ -29,10 +30,6 @@ is_some_not_none o y e f = absurd (let g : Some y ≡ None = sym e ∙ f in cc)
 
 pub some_inside : {Y : Type 0} (x y : Y) → Some x ≡ Some y → x ≡ y
 some_inside x y e = cc
-
-negated : (t : Bool) → not t ≡ true → t ≡ false
-negated true e = no e
-negated false e = refl
 
 pub either_of : (s t : Bool) → (s || t) ≡ true → (s ≡ true) ⊎ (t ≡ true)
 either_of true t e = inl refl
@@ -118,7 +115,7 @@ module _ (u : UnitView) (t : Tables) (a : AreTables u t) where
       by (inl q) = inr (λ j d. nothing_in (edges_at t.declarers e) q j ((a.declared e j).1 d))
       by (inr q) =
           let s = any_from (λ j. not (is_plain_alias (shape_at t.shapes j))) (edges_at t.declarers e) q in
-          inl (s.0, (a.declared e s.0).0 s.1, ap is_plain_alias (sym (a.shaped s.0)) ∙ negated (is_plain_alias (shape_at t.shapes s.0)) s.2)
+          inl (s.0, (a.declared e s.0).0 s.1, ap is_plain_alias (sym (a.shaped s.0)) ∙ not_true (is_plain_alias (shape_at t.shapes s.0)) s.2)
 
   ends_to : (e : ℕ) → IsEnd u e → ends_at t e ≡ true
   ends_to e (inl (j, d, h)) =
@@ -149,7 +146,7 @@ module _ (u : UnitView) (t : Tables) (a : AreTables u t) where
         built : is_builtin_at t u.names b e ≡ true → Accepts u b c e
         built q =
             let s = and_parts (not (mark_at t.bound e)) (is_callable b (name_in u.names e)) q in
-            inr (sym (a.bounded e) ∙ negated (mark_at t.bound e) s.0, s.1)
+            inr (sym (a.bounded e) ∙ not_true (mark_at t.bound e) s.0, s.1)
 
         opened : (opens_at t e ≡ true) ⊎ (is_builtin_at t u.names b e ≡ true) → Accepts u b c e
         opened (inl q) = inl (opens_from c e q)

@@ -6,8 +6,8 @@ use Rattle.wesl_tree_syntax.specs.View.{call_view, argument_view, expression_tre
 use Rattle.wesl_tree_syntax.specs.declared.expression.FunctionCall.{FunctionCall, out-FunctionCall}
 use Rattle.wesl_tree_syntax.specs.declared.expression.TypeExpression.{out-TypeExpression}
 use Rattle.wesl_validate_rules.specs.Calls.{CallOf, call_by}
-use Rattle.wesl_validate_calls.proofs.Shaping.{listed_count}
 use Rattle.wesl_tree_syntax.proofs.Views.{view_call, view_type}
+use Rattle.wesl_scope_strip.proofs.Keeping.{trees_count}
 
 abbrev one : ℕ → ℕ → List (CallOf ℕ)
 one x k = record { callee = x; arguments = k } ∷ []
@@ -22,4 +22,4 @@ plain c k none count =
     let seen : call_view c ≡ branch call (branch type_expression (optional boxed_path None ∷ name ∷ rest ∷ []) ∷ arguments ∷ []) =
     view_call c ∙ (ap (λ x. branch call (x ∷ arguments ∷ [])) (view_type t) ∙ ap (λ p. branch call (branch type_expression (optional boxed_path p ∷ name ∷ rest ∷ []) ∷ arguments ∷ [])) none) in
     let whole : call_by (call_view c).children ≡ one (out-TypeExpression t).ident.0 (length (trees (forest_of (map expression_tree (out-FunctionCall c).arguments.items)))) = ap (λ x. call_by x.children) seen in
-    sym (whole ∙ ap (one (out-TypeExpression t).ident.0) (listed_count expression_tree (out-FunctionCall c).arguments.items ∙ sym count))
+    sym (whole ∙ ap (one (out-TypeExpression t).ident.0) (trees_count expression_tree (out-FunctionCall c).arguments.items ∙ sym count))

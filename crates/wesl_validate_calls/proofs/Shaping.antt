@@ -1,10 +1,5 @@
 -- Lists that are told item by item.
 use Rattle.std.proofs.Common.{◌≡◌, ℕ, zero, suc, ◌<◌, ◌≤◌, List, [], ◌∷◌, length, map, get_or, refl, ap, arith}
-use Rattle.wesl_tree_syntax.specs.Tree.{Tree, forest_of, trees}
-
-pub listed_count : {A : Type 0} (view : A → Tree) (xs : List A) → length (trees (forest_of (map view xs))) ≡ length xs
-listed_count view [] = refl
-listed_count view (x ∷ xs) = ap suc (listed_count view xs)
 
 module _ {A B : Type 0} (f : A → B) where
   pub at_mapped : (xs : List A) (i : ℕ) (x : A) (e : B) → i < length xs → x ≡ get_or xs i x → f x ≡ get_or (map f xs) i e

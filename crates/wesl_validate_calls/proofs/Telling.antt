@@ -1,6 +1,6 @@
 -- What a fault tells is so in the module.
 use Rattle.std.proofs.Common.{◌≡◌, ℕ, Bool, true, false, cond, ◌&&◌, List, [], ◌∷◌, map, refl, sym, ap, ◌∙◌}
-use Rattle.std.specs.Prelude.{Option, Some, None, Result, Ok, Err, IfOk, IfSome, IfNone, slice_get}
+use Rattle.std.specs.Prelude.{Option, Some, None, IfNone, slice_get}
 use Rattle.std.specs.Option.{option_map}
 use Rattle.std.specs.List.{filter, find}
 use Rattle.wesl_tree_names.specs.Path.{Text}
@@ -50,16 +50,6 @@ module _ (u : UnitView) (b : BuiltinNames) (names : List Text) (same : names ≡
     named = ap (spelling u) f.named ∙ (ap (λ ns. name_in ns m) (sym same) ∙ sym n_is);
     round = ap (name_round u) f.lies ∙ sym within_is;
   }
-
-pub on_some : {X E : Type 0} (r : Result (Option X) E) (P Q : X → Type 0) → ((x : X) → P x → Q x) → IfOk r (λ o. IfSome o P) → IfOk r (λ o. IfSome o Q)
-on_some (Ok (Some x)) P Q f h = f x h
-on_some (Ok None) P Q f h = h
-on_some (Err e) P Q f h = h
-
-pub on_none : {X E : Type 0} (r : Result (Option X) E) (P Q : Type 0) → (P → Q) → IfOk r (λ o. IfNone o P) → IfOk r (λ o. IfNone o Q)
-on_none (Ok (Some x)) P Q f h = h
-on_none (Ok None) P Q f h = f h
-on_none (Err e) P Q f h = h
 
 -- what holds where nothing was found
 pub none_of : {X : Type 0} (r : Option X) (P : Type 0) → r ≡ None → IfNone r P → P

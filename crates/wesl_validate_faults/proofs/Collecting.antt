@@ -6,14 +6,14 @@ use Rattle.std.proofs.lemmas.List.{append-nil, drop_all}
 use Rattle.std.proofs.lemmas.List.Elements.{filter_passes}
 use Rattle.std.proofs.lemmas.List.Folds.{list_any-append}
 use Rattle.std.proofs.lemmas.List.Kept.{AllPairs-cons, AllPairs-filter}
-use Rattle.wesl_validate_rules.proofs.Finding.{contains_here, contains_later, contains_cases}
-use Rattle.wesl_validate_free.proofs.Once.{of_passing, to_passing}
+use Rattle.wesl_validate_free.proofs.Once.{and_right, not_both, of_passing, to_passing}
 use Rattle.wesl_validate_faults.specs.Findings.{Finding, same_finding}
 use Rattle.wesl_validate_faults.specs.Gathered.{finding_view, findings_view, with_finding}
 use Rattle.wesl_validate_faults.specs.Listed.{each_once}
 use Rattle.wesl_validate_faults.specs.declared.finding.Finding as code
 use Rattle.wesl_validate_faults.proofs.Equality.{findings_decide, finding_eq, finding_test}
 use mathlib.Core.Bool.{or-false}
+use Rattle.wesl_scope_strip.proofs.Keeping.{contains_cases, contains_here, contains_later}
 
 other_finding : (n m : Finding) → not (same_finding m n) ≡ true → n ≢ m
 other_finding n m h e = let f : same_finding m n ≡ true = (findings_decide m n).1 (sym e) in absurd (let z : ⊥ = cc in z)
@@ -69,17 +69,6 @@ passes_both p q r h (x ∷ xs) = by (p x) (r x) (h x) (passes_both p q r h xs)
     by : (s w : Bool) → (s && q x) ≡ w → filter q (filter p xs) ≡ filter r xs → filter q (cond s (x ∷ filter p xs) (filter p xs)) ≡ cond w (x ∷ filter r xs) (filter r xs)
     by true w e rest = inner (q x) w e rest
     by false w e rest = rest ∙ ap (λ b. cond b (x ∷ filter r xs) (filter r xs)) e
-
-and_right : (a b : Bool) → (b ≡ true → a ≡ true) → (a && b) ≡ b
-and_right true b h = refl
-and_right false true h = let z : false ≡ true = h refl in cc
-and_right false false h = refl
-
-not_both : (a b : Bool) → (not a && not b) ≡ not (b || a)
-not_both true true = refl
-not_both true false = refl
-not_both false true = refl
-not_both false false = refl
 
 next_finding : (seen : List Finding) (n : Finding) (ns : List Finding) → more seen (n ∷ ns) ≡ more (with_finding seen n) ns
 next_finding seen n ns = by (list_any (same_finding n) seen) refl

@@ -12,7 +12,7 @@ use Rattle.wesl_scope_occurrences.specs.Ways.{told}
 use Rattle.wesl_scope_strip.specs.Declarations.{declared_in, lies_in}
 use Rattle.wesl_scope_strip.specs.Marks.{mark_at, names_here}
 use Rattle.wesl_validate_builtins.specs.Builtins.{BuiltinNames}
-use Rattle.wesl_validate_rules.proofs.Finding.{contains_here, contains_later, test_is}
+use Rattle.wesl_validate_rules.proofs.Finding.{test_is}
 use Rattle.wesl_validate_rules.specs.Faults.{name_of, name_round}
 use Rattle.wesl_validate_rules.specs.Known.{is_meant, binds, is_unknown}
 use Rattle.wesl_validate_rules.specs.Valid.{spelling, is_undefined}
@@ -24,6 +24,7 @@ use Rattle.wesl_validate_faults.specs.Gathered.{named_here, named_in, declared_a
 use Rattle.wesl_validate_faults.specs.Listed.{module_numbers, undefineds}
 use Rattle.wesl_validate_faults.specs.declared.finding.Finding as code
 use Rattle.wesl_validate_faults.proofs.Collecting.{view_push}
+use Rattle.wesl_scope_strip.proofs.Keeping.{contains_here, contains_later}
 
 -- an identifier that adds nothing
 pub no_name : (xs : List ℕ) (j : ℕ) (o : Found) → is_module_name o.role ≡ false → xs ++ named_here j o ≡ xs

@@ -7,9 +7,10 @@ use Rattle.std.proofs.lemmas.List.{drop_all}
 use Rattle.wesl_tree_base.specs.Borrowed.{texts}
 use Rattle.wesl_tree_names.specs.Path.{Text}
 use Rattle.wesl_tree_interner.specs.Interned.{with_text}
-use Rattle.wesl_validate_rules.proofs.Finding.{from_mapped, to_mapped, contains_here, contains_later}
+use Rattle.wesl_validate_rules.proofs.Finding.{from_mapped, to_mapped}
 use Rattle.wesl_validate_free.specs.Free.{each_once}
 use Rattle.wesl_validate_free.proofs.Once.{more, none_before, none_after, next_text, none_once, none_passes, passes_none, of_passing, to_passing, of_once, to_once}
+use Rattle.wesl_scope_strip.proofs.Keeping.{contains_here, contains_later}
 
 -- ---- texts that are borrowed
 -- one of them goes last, unless its text is there

@@ -9,9 +9,10 @@ use Rattle.std.proofs.lemmas.List.Kept.{AllPairs-cons, AllPairs-filter}
 use Rattle.std.proofs.lemmas.Slice.Eq.{bytes_eq-Decides}
 use Rattle.wesl_tree_names.specs.Path.{Text}
 use Rattle.wesl_tree_interner.specs.Interned.{with_text}
-use Rattle.wesl_validate_rules.proofs.Finding.{contains_here, contains_later, contains_cases, contains_none}
+use Rattle.wesl_validate_rules.proofs.Finding.{contains_none}
 use Rattle.wesl_validate_free.specs.Free.{each_once}
 use mathlib.Core.Bool.{or-false}
+use Rattle.wesl_scope_strip.proofs.Keeping.{contains_cases, contains_here, contains_later}
 
 -- ---- those that pass
 module _ {A : Type 0} (p : A → Bool) where
@@ -114,12 +115,12 @@ passes_both p q r h (x ∷ xs) = by (p x) (r x) (h x) (passes_both p q r h xs)
     by true w e rest = inner (q x) w e rest
     by false w e rest = rest ∙ ap (λ b. cond b (x ∷ filter r xs) (filter r xs)) e
 
-and_right : (a b : Bool) → (b ≡ true → a ≡ true) → (a && b) ≡ b
+pub and_right : (a b : Bool) → (b ≡ true → a ≡ true) → (a && b) ≡ b
 and_right true b h = refl
 and_right false true h = let z : false ≡ true = h refl in cc
 and_right false false h = refl
 
-not_both : (a b : Bool) → (not a && not b) ≡ not (b || a)
+pub not_both : (a b : Bool) → (not a && not b) ≡ not (b || a)
 not_both true true = refl
 not_both true false = refl
 not_both false true = refl

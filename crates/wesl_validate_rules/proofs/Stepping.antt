@@ -14,23 +14,12 @@ use Rattle.wesl_validate_rules.specs.Graphs.{Graph, edges_at, Leads}
 use Rattle.wesl_validate_rules.specs.Valid.{LeadsTo}
 use Rattle.wesl_validate_rules.specs.Steps.{referred_here, referred, used_by, steps_here, used_in, steps}
 use Rattle.std.proofs.lemmas.Bool.{and_from, and_parts}
-
-contains_none : {A : Type 0} (m : A) → Contains [] m → ⊥
-contains_none m c = let l : c.0 < 0 = c.1 in omega (arith, l)
+use Rattle.wesl_scope_strip.proofs.Keeping.{contains_cases, contains_here, contains_later}
+use Rattle.wesl_validate_rules.proofs.Finding.{contains_none}
 
 contains_one : {A : Type 0} (x m : A) → Contains (x ∷ []) m → x ≡ m
 contains_one x m (zero, l, e) = e
 contains_one x m (suc k, l, e) = absurd (omega (arith, l))
-
-contains_here : {A : Type 0} (x : A) (xs : List A) → Contains (x ∷ xs) x
-contains_here x xs = (0, omega arith, refl)
-
-contains_later : {A : Type 0} (x m : A) (xs : List A) → Contains xs m → Contains (x ∷ xs) m
-contains_later x m xs c = (suc c.0, omega (arith, c.1), c.2)
-
-contains_cases : {A : Type 0} (x m : A) (xs : List A) → Contains (x ∷ xs) m → (x ≡ m) ⊎ Contains xs m
-contains_cases x m xs (zero, l, e) = inl e
-contains_cases x m xs (suc k, l, e) = inr (k, omega (arith, l), e)
 
 -- members of lists that are joined
 module _ {A B : Type 0} (f : A → List B) where

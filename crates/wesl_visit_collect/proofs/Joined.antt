@@ -8,7 +8,7 @@ use Rattle.wesl_visit_collect.specs.Walk.{chosen, sight, sight_below, strictly}
 use Rattle.wesl_visit_collect.specs.Picks.{picks}
 use Rattle.wesl_visit_collect.proofs.Labels.{sight_whole}
 
-agrees : (k : Sought) (l : Label) → test k l ≡ picks k l
+pub agrees : (k : Sought) (l : Label) → test k l ≡ picks k l
 agrees expressions (at expression_node s e) = refl
 agrees expressions (at statement_node s e) = refl
 agrees expressions (kind type_expression) = refl

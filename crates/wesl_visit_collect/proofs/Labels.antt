@@ -83,21 +83,21 @@ chosen_none k deep p m (tree l children others) h =
     let b = and_parts (p l) (all_of p children) a.0 in
     chosen_here deep (picks k l) l children (chosen k deep children) (chosen k deep others) (m l b.0) (chosen_none k deep p m children b.1) (chosen_none k deep p m others a.1)
 
-flat_statements : (l : Label) → flat_label l ≡ true → picks statements l ≡ false
+pub flat_statements : (l : Label) → flat_label l ≡ true → picks statements l ≡ false
 flat_statements (at statement_node s e) h = absurd (let x : ⊥ = cc in x)
 flat_statements (at expression_node s e) h = refl
 flat_statements (kind type_expression) h = refl
 flat_statements (kind attributes) h = refl
 flat_statements _ h = refl
 
-flat_attributes : (l : Label) → flat_label l ≡ true → picks attribute_lists l ≡ false
+pub flat_attributes : (l : Label) → flat_label l ≡ true → picks attribute_lists l ≡ false
 flat_attributes (kind attributes) h = absurd (let x : ⊥ = cc in x)
 flat_attributes (kind type_expression) h = refl
 flat_attributes (at expression_node s e) h = refl
 flat_attributes (at statement_node s e) h = refl
 flat_attributes _ h = refl
 
-hollow_picks : (k : Sought) (l : Label) → hollow_label l ≡ true → picks k l ≡ false
+pub hollow_picks : (k : Sought) (l : Label) → hollow_label l ≡ true → picks k l ≡ false
 hollow_picks k (at expression_node s e) h = absurd (let x : ⊥ = cc in x)
 hollow_picks k (kind type_expression) h = absurd (let x : ⊥ = cc in x)
 hollow_picks k (at statement_node s e) h = absurd (let x : ⊥ = cc in x)

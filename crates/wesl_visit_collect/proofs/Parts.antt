@@ -17,7 +17,7 @@ use Rattle.wesl_visit_collect.specs.declared.collected.Collected.{Collected}
 use Rattle.wesl_visit_collect.proofs.Adds.{beside, hollow, inside}
 use Rattle.wesl_tree_syntax.proofs.Views.{view_type}
 
-path_hollow : (p : Option (Box ModulePath)) (f : Forest) → all_of hollow_label f ≡ true → all_of hollow_label (before (optional boxed_path p) f) ≡ true
+pub path_hollow : (p : Option (Box ModulePath)) (f : Forest) → all_of hollow_label f ≡ true → all_of hollow_label (before (optional boxed_path p) f) ≡ true
 path_hollow None f h = h
 path_hollow (Some p) f h = h
 

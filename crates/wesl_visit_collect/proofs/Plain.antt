@@ -1,9 +1,9 @@
 -- Expressions and types hold no words, no statements and no attributes.
-use Rattle.std.proofs.Common.{◌≡◌, Bool, true, ◌&&◌, List, [], ◌∷◌, map, refl, sym, subst, Vec, Global, Option, None, Some}
+use Rattle.std.proofs.Common.{◌≡◌, Bool, true, List, [], ◌∷◌, map, refl, sym, subst, Vec, Global, Option, None, Some}
 use Rattle.std.specs.Global.{Box}
 use Rattle.wesl_tree_names.specs.declared.path.ModulePath.{ModulePath}
 use Rattle.wesl_tree_names.specs.declared.Ident.{Ident}
-use Rattle.wesl_tree_syntax.specs.Tree.{Label, Forest, Tree, end, tree, forest_of, kind, at, attributes, expression_node, statement_node}
+use Rattle.wesl_tree_syntax.specs.Tree.{Label, Forest, Tree, forest_of, kind, at, attributes, expression_node, statement_node}
 use Rattle.wesl_tree_syntax.specs.View.{expression_view, expression_tree, call_view, argument_view, type_view, expression_step, call_step, argument_step, type_step, placed, literal_tree}
 use Rattle.wesl_tree_syntax.specs.declared.span.Spanned.{Spanned}
 use Rattle.wesl_tree_syntax.specs.declared.expression.Literal.{Literal as LiteralValue}
@@ -15,7 +15,7 @@ use Rattle.wesl_tree_syntax.specs.declared.expression.TypeExpression.{TypeExpres
 use Rattle.wesl_tree_syntax.specs.declared.expression.Expression.TheOpen.{Expression-F, FunctionCall-F, TemplateArg-F, TypeExpression-F}
 use Rattle.wesl_tree_syntax.specs.declared.expression.Expression.TheFolds.{ind-Expression, ind-TypeExpression, fold-roll-Expression, fold-roll-FunctionCall, fold-roll-TemplateArg, fold-roll-TypeExpression}
 use Rattle.wesl_visit_collect.specs.Held.{all_of, plain_label, flat_label, IsPlain}
-use Rattle.std.proofs.lemmas.Bool.{and_parts}
+use Rattle.wesl_visit_collect.proofs.Labels.{all_more}
 
 abbrev plain : Forest → Bool
 plain = all_of plain_label
@@ -99,13 +99,6 @@ type_plain = ind-TypeExpression (λ e. IsPlain (expression_view e)) (λ c. IsPla
     (λ x y is. subst IsPlain (sym (fold-roll-TypeExpression Tree Tree Tree Tree expression_step call_step argument_step type_step x)) (subst (λ z. IsPlain (type_seen z)) is (type_each y.path y.ident y.template_args)))
 
 -- what is plain is flat
-all_more : (p q : Label → Bool) → ((l : Label) → p l ≡ true → q l ≡ true) → (f : Forest) → all_of p f ≡ true → all_of q f ≡ true
-all_more p q m end h = refl
-all_more p q m (tree l children others) h =
-    let a = and_parts (p l && all_of p children) (all_of p others) h in
-    let b = and_parts (p l) (all_of p children) a.0 in
-    rw (m l b.0, all_more p q m children b.1, all_more p q m others a.1) refl
-
 plain_is_flat : (l : Label) → plain_label l ≡ true → flat_label l ≡ true
 plain_is_flat (at statement_node s e) h = h
 plain_is_flat (kind attributes) h = h

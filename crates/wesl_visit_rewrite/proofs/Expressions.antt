@@ -1,35 +1,23 @@
 -- The trees of expressions and types, by the trees of their parts.
-use Rattle.std.proofs.Common.{◌≡◌, [], ◌∷◌, refl, sym, ap, ◌∙◌, subst, List, length, Bool, false, ◌&&◌, not, Global, Option, None, Some, Vec, true}
-use Rattle.std.specs.Global.{Box}
-use Rattle.wesl_tree_names.specs.declared.path.ModulePath.{ModulePath}
-use Rattle.wesl_tree_syntax.specs.Tree.{absent, before, end, Forest, leaf, present, tree, branch, kind, list, literal, reference, Tree, type_expression}
-use Rattle.wesl_tree_syntax.specs.View.{argument_view, boxed_path, ident_tree, listed, literal_tree, optional, type_view}
-use Rattle.wesl_tree_syntax.specs.declared.expression.Literal.{Literal}
-use Rattle.wesl_tree_syntax.specs.declared.expression.Literal.TheVariants as literals
+use Rattle.std.proofs.Common.{◌≡◌, [], ◌∷◌, refl, sym, ap, ◌∙◌, subst, List, length, Bool, false, ◌&&◌, not, Global, Option, None, Some, Vec}
+use Rattle.wesl_tree_syntax.specs.Tree.{absent, before, end, leaf, present, tree, branch, kind, list, reference, Tree, type_expression}
+use Rattle.wesl_tree_syntax.specs.View.{argument_view, boxed_path, ident_tree, listed, optional, type_view}
 use Rattle.std.specs.Vec.{with_items}
 use Rattle.wesl_visit_collect.specs.Picks.{picks, seeks_types}
 use Rattle.wesl_visit_rewrite.specs.Replaced.{Rule}
 use Rattle.wesl_visit_collect.specs.Finished.{Finished}
 use Rattle.wesl_visit_rewrite.specs.Went.{Went}
-use Rattle.wesl_visit_collect.specs.Held.{all_of, hollow_label}
 use Rattle.wesl_visit_rewrite.proofs.Labels.{words}
 use Rattle.wesl_visit_rewrite.proofs.Steps.{beside, forest_by, inside, moved, taken_else, unmoved, went_list}
-use Rattle.wesl_visit_rewrite.proofs.Views.{type_label}
 use Rattle.wesl_tree_syntax.specs.declared.expression.Expression.TheViews.{roll-out-TypeExpression}
 use Rattle.wesl_tree_syntax.specs.declared.expression.TemplateArg.{TemplateArg}
 use Rattle.wesl_tree_syntax.specs.declared.expression.TypeExpression.{TypeExpression, out-TypeExpression, roll-TypeExpression}
 use Rattle.wesl_tree_syntax.proofs.Views.{view_type, view_type_of}
-
-pub literal_hollow : (l : Literal) → all_of hollow_label (before (branch literal (literal_tree l ∷ [])) end) ≡ true
-literal_hollow (literals.Bool b) = refl
-literal_hollow (literals.Text s) = refl
+use Rattle.wesl_visit_collect.proofs.Parts.{path_hollow}
+use Rattle.wesl_visit_collect.proofs.Variants.{type_label}
 
 abbrev type_of : TypeExpression → Option (Vec TemplateArg Global) → Tree
 type_of t o = branch type_expression (optional boxed_path (out-TypeExpression t).path ∷ ident_tree reference (out-TypeExpression t).ident ∷ optional (listed argument_view list) o ∷ [])
-
-path_hollow : (p : Option (Box ModulePath)) (f : Forest) → all_of hollow_label f ≡ true → all_of hollow_label (before (optional boxed_path p) f) ≡ true
-path_hollow None f h = h
-path_hollow (Some p) f h = h
 
 -- a type without arguments, and one with them
 pub type_none : (k : Rule) (a : Bool) (t : TypeExpression) → (out-TypeExpression t).template_args ≡ None → Went k a (type_view t).children a (type_view (roll-TypeExpression (out-TypeExpression t))).children

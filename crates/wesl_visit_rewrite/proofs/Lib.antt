@@ -1,6 +1,5 @@
 pub mod Labels
 pub mod Steps
-pub mod Views
 pub mod Words
 pub mod Expressions
 pub mod Parts

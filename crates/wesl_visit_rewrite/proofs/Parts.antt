@@ -1,19 +1,16 @@
 -- What becomes of parts that several nodes have.
-use Rattle.std.proofs.Common.{◌≡◌, Bool, true, false, ◌&&◌, not, List, length, refl, sym, ap, Vec, Global, None, Some}
+use Rattle.std.proofs.Common.{◌≡◌, Bool, false, ◌&&◌, not, List, length, refl, sym, ap, Vec, Global}
 use Rattle.std.proofs.lemmas.List.{with_items_is}
 use Rattle.std.specs.Vec.{with_items}
 use Rattle.wesl_tree_syntax.specs.Tree.{Kind, Tree, before, end, kind, attributes, attribute_node}
-use Rattle.wesl_tree_syntax.specs.View.{attribute_view, attributes_tree, expression_tree, kind_tree, operand_tree, placed}
+use Rattle.wesl_tree_syntax.specs.View.{attribute_view, attributes_tree, expression_tree, operand_tree, placed}
 use Rattle.wesl_tree_syntax.specs.declared.attribute.Attribute.{Attribute}
-use Rattle.wesl_tree_syntax.specs.declared.declaration.DeclarationKind.{DeclarationKind}
-use Rattle.wesl_tree_syntax.specs.declared.declaration.DeclarationKind.TheVariants as kinds
 use Rattle.wesl_tree_syntax.specs.declared.expression.Expression.{Expression}
 use Rattle.wesl_tree_syntax.specs.declared.span.Spanned.{Spanned}
 use Rattle.wesl_visit_collect.specs.Picks.{picks, seeks_attributes}
 use Rattle.wesl_visit_rewrite.specs.Replaced.{Rule}
 use Rattle.wesl_visit_collect.specs.Finished.{Finished}
 use Rattle.wesl_visit_rewrite.specs.Went.{Went}
-use Rattle.wesl_visit_collect.specs.Held.{all_of, hollow_label}
 use Rattle.wesl_visit_rewrite.proofs.Labels.{words}
 use Rattle.wesl_visit_rewrite.proofs.Steps.{forest_by, inside, moved, taken_else, viewed}
 
@@ -27,11 +24,3 @@ pub attributes_after : {k : Rule} {a b c : Bool} (r : Bool) (v : Vec (Spanned At
 attributes_after {k = k} r v lent new u e h is n w d =
     let view = placed attribute_view attribute_node in
     taken_else (seeks_attributes k.sought) r (kind attributes) u refl refl e h (moved (forest_by view v.items) (forest_by view (with_items v new).items) (ap (forest_by view) (sym is)) (ap (forest_by view) (with_items_is v new n)) w) d
-
-pub kind_hollow : (d : DeclarationKind) → all_of hollow_label (before (kind_tree d) end) ≡ true
-kind_hollow kinds.Const = refl
-kind_hollow kinds.Override = refl
-kind_hollow kinds.Let = refl
-kind_hollow (kinds.Var None) = refl
-kind_hollow (kinds.Var (Some (s, None))) = refl
-kind_hollow (kinds.Var (Some (s, Some a))) = refl

@@ -5,7 +5,8 @@ use Rattle.wesl_visit_collect.specs.Picks.{picks}
 use Rattle.wesl_visit_rewrite.specs.Replaced.{Rule, is_passed_over, Replaced, nothing, word, other, as_it_stands, inner_first, Stopped, at_node, after_inner, inside_node, inside_other, later, ReplacedBelow, of_word, of_other, StoppedBelow, within}
 use Rattle.wesl_visit_collect.specs.Sought.{test}
 use Rattle.wesl_visit_rewrite.specs.Went.{Went, WentBy, WentBelow, WentBelowBy}
-use Rattle.wesl_visit_rewrite.proofs.Labels.{agrees, no_word}
+use Rattle.wesl_visit_rewrite.proofs.Labels.{no_word}
+use Rattle.wesl_visit_collect.proofs.Joined.{agrees}
 
 differs : {X : Type 0} (b : Bool) → b ≡ true → b ≡ false → X
 differs b p q = absurd (let x : ⊥ = cc in x)

@@ -1,12 +1,11 @@
 -- The trees of statements and of the clauses in them, by the trees of their parts.
-use Rattle.std.proofs.Common.{◌≡◌, [], ◌∷◌, sym, ap, ◌∙◌, rules, Global, Option, Vec}
+use Rattle.std.proofs.Common.{◌≡◌, [], ◌∷◌, sym, ap, ◌∙◌, Global, Option, Vec}
 use mathlib.Core.List.{map-map}
-use Rattle.wesl_tree_syntax.specs.Tree.{assignment, branch, compound, continuing, else_clause, else_if_clause, forest_of, if_clause, list, statements, switch_clause, Tree}
-use Rattle.wesl_tree_syntax.specs.View.{attributes_tree, break_if_view, clause_step, clause_view, compound_step, compound_view, continuing_step, continuing_view, else_if_step, else_if_view, else_step, else_view, expression_tree, if_step, if_view, listed, optional, selector_view, statement_step, statement_tree, statement_view}
+use Rattle.wesl_tree_syntax.specs.Tree.{branch, compound, continuing, else_clause, else_if_clause, if_clause, list, statements, switch_clause, Tree}
+use Rattle.wesl_tree_syntax.specs.View.{attributes_tree, break_if_view, clause_step, clause_view, compound_step, compound_view, continuing_step, continuing_view, else_if_step, else_if_view, else_step, else_view, expression_tree, if_step, if_view, listed, optional, selector_view, statement_step, statement_tree}
 use Rattle.wesl_tree_syntax.specs.declared.attribute.Attribute.{Attribute}
 use Rattle.wesl_tree_syntax.specs.declared.expression.Expression.{Expression}
 use Rattle.wesl_tree_syntax.specs.declared.span.Spanned.{Spanned}
-use Rattle.wesl_tree_syntax.specs.declared.statement.AssignmentOperator.{AssignmentOperator}
 use Rattle.wesl_tree_syntax.specs.declared.statement.BreakIfStatement.{BreakIfStatement}
 use Rattle.wesl_tree_syntax.specs.declared.statement.CaseSelector.{CaseSelector}
 use Rattle.wesl_tree_syntax.specs.declared.statement.CompoundStatement.{CompoundStatement, out-CompoundStatement, roll-CompoundStatement}
@@ -15,13 +14,9 @@ use Rattle.wesl_tree_syntax.specs.declared.statement.ElseClause.{ElseClause, out
 use Rattle.wesl_tree_syntax.specs.declared.statement.ElseIfClause.{ElseIfClause, out-ElseIfClause, roll-ElseIfClause}
 use Rattle.wesl_tree_syntax.specs.declared.statement.IfClause.{IfClause, out-IfClause, roll-IfClause}
 use Rattle.wesl_tree_syntax.specs.declared.statement.SwitchClause.{SwitchClause, out-SwitchClause, roll-SwitchClause}
-use Rattle.wesl_tree_syntax.specs.declared.statement.Statement.{Statement, the_lemmas}
+use Rattle.wesl_tree_syntax.specs.declared.statement.Statement.{Statement}
 use Rattle.wesl_tree_syntax.specs.declared.statement.Statement.TheFolds.{fold-roll-CompoundStatement, fold-roll-ContinuingStatement, fold-roll-ElseClause, fold-roll-ElseIfClause, fold-roll-IfClause, fold-roll-SwitchClause}
-use Rattle.wesl_tree_syntax.specs.declared.statement.Statement as made
 use Rattle.wesl_tree_syntax.specs.declared.statement.Statement.TheViews.{roll-out-CompoundStatement, roll-out-ContinuingStatement, roll-out-ElseClause, roll-out-ElseIfClause, roll-out-IfClause, roll-out-SwitchClause}
-
-pub view_Assignment : (a : Vec (Spanned Attribute) Global) (o : AssignmentOperator) (l : Spanned Expression) (r : Spanned Expression) → statement_view (made.Assignment a o l r) ≡ record { label = assignment o; children = forest_of (attributes_tree a ∷ expression_tree l ∷ expression_tree r ∷ []) }
-view_Assignment a o l r = search (rules, the_lemmas)
 
 pub CompoundStatement_of : (a : Vec (Spanned Attribute) Global) (v : Vec (Spanned Statement) Global) → compound_view (roll-CompoundStatement (record { attributes = a; statements = v })) ≡ branch compound (attributes_tree a ∷ listed statement_tree statements v ∷ [])
 CompoundStatement_of a v = fold-roll-CompoundStatement Tree Tree Tree Tree Tree Tree Tree statement_step compound_step continuing_step else_step else_if_step if_step clause_step (record { attributes = a; statements = v }) ∙ simp map-map

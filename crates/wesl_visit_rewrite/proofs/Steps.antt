@@ -11,9 +11,11 @@ use Rattle.wesl_visit_rewrite.specs.Replaced.{Rule, is_passed_over, Replaced, no
 use Rattle.wesl_visit_collect.specs.Picks.{picks}
 use Rattle.wesl_visit_collect.specs.Finished.{Finished, FinishedBy, TurnedBy}
 use Rattle.wesl_visit_rewrite.specs.Went.{Went, WentBy}
-use Rattle.wesl_visit_rewrite.proofs.Labels.{agrees, hollow_picks, hollow_words, no_word, words}
+use Rattle.wesl_visit_rewrite.proofs.Labels.{hollow_words, no_word, words}
 use Rattle.wesl_visit_collect.specs.Held.{all_of, hollow_label}
 use Rattle.std.proofs.lemmas.Bool.{and_parts}
+use Rattle.wesl_visit_collect.proofs.Joined.{agrees}
+use Rattle.wesl_visit_collect.proofs.Labels.{hollow_picks}
 
 not_false : (b : Bool) → (true && not b) ≡ false → b ≡ true
 not_false true h = refl

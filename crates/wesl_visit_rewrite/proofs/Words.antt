@@ -16,9 +16,11 @@ use Rattle.wesl_visit_rewrite.specs.Replaced.{Rule, rule, Replaced, nothing, wor
 use Rattle.wesl_visit_collect.specs.Sought.{Sought, expressions, types, statements, attribute_lists}
 use Rattle.wesl_visit_collect.specs.Finished.{Finished, FinishedBy, TurnedBy}
 use Rattle.wesl_visit_rewrite.specs.Went.{Went, WentBy}
-use Rattle.wesl_visit_rewrite.proofs.Labels.{agrees, flat_attributes, flat_statements, words}
+use Rattle.wesl_visit_rewrite.proofs.Labels.{words}
 use Rattle.wesl_visit_collect.specs.Held.{all_of, flat_label, hollow_label, AttributesAreFlat, ContentsAreHollow}
 use Rattle.wesl_visit_rewrite.proofs.Steps.{hollow_same, inner_by, joined_by, replaced_none, same, same_by, whole_by, within_by}
+use Rattle.wesl_visit_collect.proofs.Joined.{agrees}
+use Rattle.wesl_visit_collect.proofs.Labels.{flat_attributes, flat_statements}
 
 abbrev flat : Forest → Bool
 flat = all_of flat_label

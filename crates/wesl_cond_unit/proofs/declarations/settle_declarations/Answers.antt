@@ -7,10 +7,11 @@ use Rattle.wesl_tree_syntax.specs.Tree.{Tree, declaration_node, forest_of}
 use Rattle.wesl_tree_syntax.specs.View.{global_view, placed}
 use Rattle.wesl_tree_syntax.specs.declared.declaration.GlobalDeclaration.{GlobalDeclaration}
 use Rattle.wesl_tree_syntax.specs.declared.span.Spanned.{Spanned}
-use Rattle.wesl_cond_unit.proofs.Fronts.{changed, front_is_all, lent_back, map_in_turn}
+use Rattle.wesl_cond_unit.proofs.Fronts.{changed}
 use Rattle.wesl_cond_unit.proofs.Levels.{declarations_left}
 use Rattle.wesl_cond_unit.proofs.Settled.{global_settled}
 use Rattle.wesl_cond_unit.proofs.declarations.settle_declarations.Goals as goal
+use Rattle.wesl_cond_chains.proofs.Fronts.{front_is_all, lent_back, map_in_turn}
 
 abbrev view : Spanned GlobalDeclaration → Tree
 view = placed global_view declaration_node

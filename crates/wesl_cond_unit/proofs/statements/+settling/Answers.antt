@@ -9,10 +9,11 @@ use Rattle.wesl_tree_syntax.specs.View.{break_if_view, clause_view, continuing_v
 use Rattle.wesl_tree_syntax.specs.declared.statement.CompoundStatement.{out-CompoundStatement}
 use Rattle.wesl_tree_syntax.specs.declared.statement.ContinuingStatement.{out-ContinuingStatement}
 use Rattle.wesl_tree_syntax.specs.declared.statement.Statement.{the_lemmas}
-use Rattle.wesl_cond_unit.proofs.Fronts.{changed, front_is_all, lent_back, map_in_turn}
+use Rattle.wesl_cond_unit.proofs.Fronts.{changed}
 use Rattle.wesl_cond_unit.proofs.Leaves.{leaf_left, no_list}
 use Rattle.wesl_cond_unit.proofs.Settled.{block_settled, clause_settled, compound_settled, else_if_settled, compound_in, else_settled, for_in, if_clause_settled, if_in, loop_in, node_settled, optional_settled, switch_in, while_in}
 use Rattle.wesl_cond_unit.proofs.statements.+settling.Goals as goal
+use Rattle.wesl_cond_chains.proofs.Fronts.{front_is_all, lent_back, map_in_turn}
 
 pub settle_statements-returns : goal.settle_statements-returns
 settle_statements-returns t c =

@@ -4,15 +4,16 @@ use Rattle.wesl_link_tables.specs.TextsView.{numbering_of_texts as numbering}
 use Rattle.wesl_link_tables.specs.declared.marks.Mark.{Mark}
 use Rattle.wesl_link_tables.specs.declared.marks.Mark.TheVariants as marks
 use Rattle.wesl_link_engine.proofs.Adding.{AllMeant, meant_more}
-use Rattle.wesl_link_engine.proofs.Lists.{get_at, at_has}
+use Rattle.wesl_link_engine.proofs.Lists.{at_has}
 use Rattle.wesl_link_engine.proofs.assemble.add_denotations.Goals as goal
+use Rattle.wesl_link_tables.proofs.Known.{below_held}
 
 pub denotation-requires-clause-held : goal.denotation-requires-clause-held
 denotation-requires-clause-held c =
     let i = c.loop-mark.mark-index in
     let none : Mark = marks.Declares (record { 0 = 0 }) in
     let m : Mark = get_or c.args.marks.now i none in
-    c.requires.held m (at_has c.args.marks.now i m (get_at c.args.marks.now i none c.loop-mark-test.true))
+    c.requires.held m (at_has c.args.marks.now i m (below_held c.args.marks.now i none c.loop-mark-test.true))
 
 pub loop-mark-init : goal.loop-mark-init
 loop-mark-init c = (λ e. ([], sym (append-nil _), tt), refl, λ e. e)
@@ -24,7 +25,7 @@ loop-mark-preserved c =
     let m : Mark = get_or c.args.marks.now i none in
     let (all, same, noted) = c.loop-mark.invariant in (
       λ e. meant_more (numbering c.args.numbers.now) c.args.linked.now c.args.table.now c.args.marks.now i m c.args.parts.now.denotations.items c.loop-mark.parts.denotations.items c.tell.new.self.denotations.items c.denotation.result
-          (get_at c.args.marks.now i none c.loop-mark-test.true) (all (c.tell.ensures.noted e)) (c.tell.ensures.told e) c.denotation.ensures,
+          (below_held c.args.marks.now i none c.loop-mark-test.true) (all (c.tell.ensures.noted e)) (c.tell.ensures.told e) c.denotation.ensures,
       c.tell.ensures.same ∙ same,
       λ e. noted (c.tell.ensures.noted e),
     )

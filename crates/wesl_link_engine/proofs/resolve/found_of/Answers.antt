@@ -5,16 +5,16 @@ use Rattle.wesl_link_symbols.specs.Tables.{Table}
 use Rattle.wesl_link_reach.specs.Faults.{AreDistinct}
 use Rattle.wesl_link_reach.specs.Linking.{paths}
 use Rattle.wesl_link_tables.specs.NumbersView.{numbering}
-use Rattle.wesl_link_tables.proofs.Lists.{taken_all}
 use Rattle.wesl_link_engine.specs.Taking.{AreKept, AreTaken}
 use Rattle.wesl_link_engine.specs.declared.link.Link.{Link}
 use Rattle.wesl_link_engine.proofs.resolve.found_of.Goals as goal
+use Rattle.std.proofs.lemmas.List.{take_all}
 
 -- the slice of all but the first
 rest_is : {X : Type 0} (xs ys : List X) → xs ≡ ys → take (length xs - 1) (drop 1 xs) ≡ drop 1 ys
 rest_is xs ys e =
     let l : length (drop 1 xs) ≡ length xs - 1 = length-drop 1 xs in
-    taken_all (drop 1 xs) (length xs - 1) (omega arith) ∙ ap (λ zs. drop 1 zs) e
+    take_all (length xs - 1) (drop 1 xs) (omega arith) ∙ ap (λ zs. drop 1 zs) e
 
 pub take_modules-requires-clause-kept : goal.take_modules-requires-clause-kept
 take_modules-requires-clause-kept c =

@@ -4,8 +4,8 @@ use Rattle.wesl_tree_names.specs.Path.{path_view, join}
 use Rattle.wesl_link_tables.specs.Aims.{spelled_binder}
 use Rattle.wesl_link_tables.specs.NumbersView.{numbering}
 use Rattle.wesl_link_tables.specs.Uses.{module_in_place, or_itself}
-use Rattle.wesl_link_tables.proofs.Walked.{on_ok}
 use Rattle.wesl_link_tables.proofs.aims.add_aims.Goals as goal
+use Rattle.wesl_link_split.proofs.Lists.{on_ok}
 
 pub returns : goal.returns
 returns c =

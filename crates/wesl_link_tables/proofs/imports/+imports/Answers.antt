@@ -8,8 +8,9 @@ use Rattle.wesl_link_tables.specs.NumbersView.{paths_of}
 use Rattle.wesl_link_tables.specs.Walks.{import_view, imported}
 use Rattle.wesl_link_tables.proofs.Known.{base_later, base_same, found_same}
 use Rattle.wesl_link_tables.proofs.Lists.{longer_itself, longer_trans}
-use Rattle.wesl_link_tables.proofs.Walked.{on_ok, item_walked, collection_walked, entry_walked, entries_next, entries_all}
+use Rattle.wesl_link_tables.proofs.Walked.{item_walked, collection_walked, entry_walked, entries_next, entries_all}
 use Rattle.wesl_link_tables.proofs.imports.+imports.Goals as goal
+use Rattle.wesl_link_split.proofs.Lists.{on_ok}
 
 pub add_content-returns-in-Item-clause-imports : goal.add_content-returns-in-Item-clause-imports
 add_content-returns-in-Item-clause-imports t c =

@@ -6,8 +6,9 @@ use Rattle.wesl_link_tables.specs.NumbersView.{paths_of}
 use Rattle.wesl_link_tables.specs.Walks.{import_view}
 use Rattle.wesl_link_tables.proofs.Known.{found_later, found_same}
 use Rattle.wesl_link_tables.proofs.Lists.{longer_trans}
-use Rattle.wesl_link_tables.proofs.Walked.{on_ok, statement_is}
+use Rattle.wesl_link_tables.proofs.Walked.{statement_is}
 use Rattle.wesl_link_tables.proofs.imports.add_statement.Goals as goal
+use Rattle.wesl_link_split.proofs.Lists.{on_ok}
 
 pub add_content-requires-clause-known : goal.add_content-requires-clause-known
 add_content-requires-clause-known c = found_later (paths_of c.args.paths.now) (paths_of c.base_of.new.paths) c.base_of.ensures.grows c.args.found.now.items c.requires.known

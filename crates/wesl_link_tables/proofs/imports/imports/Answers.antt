@@ -3,9 +3,10 @@ use Rattle.wesl_tree_names.specs.Path.{path_view}
 use Rattle.wesl_cond_choices.specs.declared.place.Place.TheVariants as places
 use Rattle.wesl_link_tables.specs.NumbersView.{paths_of}
 use Rattle.wesl_link_tables.specs.Walks.{HavePaths, import_view}
-use Rattle.wesl_link_tables.proofs.Lists.{longer_itself, longer_trans, taken_all}
+use Rattle.wesl_link_tables.proofs.Lists.{longer_itself, longer_trans}
 use Rattle.wesl_link_tables.proofs.Nodes.{imports_of, imports_from, imports_next, all_imports-all}
 use Rattle.wesl_link_tables.proofs.imports.imports.Goals as goal
+use Rattle.wesl_link_split.proofs.Lists.{taken_all}
 
 pub loop-i-init : goal.loop-i-init
 loop-i-init c =

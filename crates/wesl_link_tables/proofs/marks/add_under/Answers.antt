@@ -4,11 +4,11 @@ use Rattle.wesl_link_split.specs.Split.{under}
 use Rattle.wesl_link_tables.specs.NumbersView.{numbering}
 use Rattle.wesl_link_tables.specs.Reading.{AddsReferences, scope_in}
 use Rattle.wesl_link_tables.specs.Uses.{texts}
-use Rattle.wesl_link_tables.proofs.Lists.{taken_all}
 use Rattle.wesl_link_tables.proofs.Added.{adds_none}
 use Rattle.wesl_link_tables.proofs.Marking.{under_next}
 use Rattle.wesl_link_tables.proofs.Related.{grows_itself, grows_trans}
 use Rattle.wesl_link_tables.proofs.marks.add_under.Goals as goal
+use Rattle.wesl_link_split.proofs.Lists.{taken_all}
 
 pub loop-module-init : goal.loop-module-init
 loop-module-init c = record { added = λ x n. adds_none (numbering c.args.numbers.now) c.args.found.now.items; grows = grows_itself (numbering c.args.numbers.now) }

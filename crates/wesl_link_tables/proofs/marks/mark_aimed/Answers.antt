@@ -4,10 +4,10 @@ use Rattle.wesl_link_tables.specs.NumbersView.{numbering}
 use Rattle.wesl_link_tables.specs.Numbering.{NameAt}
 use Rattle.wesl_link_tables.specs.Reading.{IsPackage, Marks}
 use Rattle.wesl_link_tables.proofs.Added.{numbered_later}
-use Rattle.wesl_link_tables.proofs.Asked.{if_ok}
 use Rattle.wesl_link_tables.proofs.Marking.{aimed_absolute, aimed_relative}
 use Rattle.wesl_link_tables.proofs.Related.{name_later}
 use Rattle.wesl_link_tables.proofs.marks.mark_aimed.Goals as goal
+use Rattle.wesl_link_split.proofs.Anywhere.{if_ok}
 
 pub mark_through-requires-clause-numbered : goal.mark_through-requires-clause-numbered
 mark_through-requires-clause-numbered c = numbered_later (numbering c.args.numbers.now) (numbering c.name.new.self) c.name.ensures.grows c.args.reading.now c.requires.numbered

@@ -1,8 +1,8 @@
 use Rattle.std.proofs.Common.{◌<◌, length, subst, sym}
 use Rattle.wesl_link_tables.specs.NumbersView.{numbering}
-use Rattle.wesl_link_tables.proofs.Asked.{if_ok}
 use Rattle.wesl_link_tables.proofs.Seen.{mark_there, below_there, id_there, name_there}
 use Rattle.wesl_link_tables.proofs.marks.mark_at.Goals as goal
+use Rattle.wesl_link_split.proofs.Anywhere.{if_ok}
 
 pub id_of-name-requires : goal.id_of-name-requires
 id_of-name-requires c =

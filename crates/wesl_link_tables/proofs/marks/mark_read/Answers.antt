@@ -5,9 +5,9 @@ use Rattle.wesl_link_tables.specs.NumbersView.{numbering}
 use Rattle.wesl_link_tables.specs.Reading.{Marks, used_as}
 use Rattle.wesl_link_tables.specs.declared.marks.Mark.TheVariants as marks
 use Rattle.wesl_link_tables.proofs.Added.{marks_declared, marks_word, marks_local}
-use Rattle.wesl_link_tables.proofs.Asked.{if_ok}
 use Rattle.wesl_link_tables.proofs.Seen.{read_module, read_outer, read_local, read_aimed, read_past}
 use Rattle.wesl_link_tables.proofs.marks.mark_read.Goals as goal
+use Rattle.wesl_link_split.proofs.Anywhere.{if_ok}
 
 pub returns-in-Declares-clause-marked : goal.returns-in-Declares-clause-marked
 returns-in-Declares-clause-marked c = λ x n.

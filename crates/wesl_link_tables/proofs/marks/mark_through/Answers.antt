@@ -6,10 +6,10 @@ use Rattle.wesl_link_tables.specs.Reading.{Marks, scope_in}
 use Rattle.wesl_link_tables.specs.Uses.{texts}
 use Rattle.wesl_link_tables.proofs.Added.{marks_unclear}
 use Rattle.wesl_link_tables.proofs.Alike.{known_all, package_is}
-use Rattle.wesl_link_tables.proofs.Asked.{if_ok}
 use Rattle.wesl_link_tables.proofs.Marking.{start_several, start_nothing, start_one, aimed_unclear, aimed_first, aimed_none}
 use Rattle.wesl_link_tables.proofs.Walked.{if_on}
 use Rattle.wesl_link_tables.proofs.marks.mark_through.Goals as goal
+use Rattle.wesl_link_split.proofs.Anywhere.{if_ok}
 
 pub returns-in-Several-clause-marked : goal.returns-in-Several-clause-marked
 returns-in-Several-clause-marked c =

@@ -1,11 +1,10 @@
 use Rattle.std.proofs.Common.{◌∙◌, ◌<◌, ◌≤◌, ◌+◌, ◌++◌, ◌∷◌, [], sym, subst, arith, length, get_or, take}
 use Rattle.wesl_link_tables.specs.Numbering.{AreRelated, NameAt}
 use Rattle.wesl_link_tables.specs.NumbersView.{numbering}
-use Rattle.wesl_link_tables.proofs.Lists.{taken_all}
 use Rattle.wesl_link_tables.proofs.Naming.{names_one}
-use Rattle.wesl_link_tables.proofs.Pieced.{take_one}
 use Rattle.wesl_link_tables.proofs.Related.{grows_itself, grows_trans}
 use Rattle.wesl_link_tables.proofs.reading.add_ids.Goals as goal
+use Rattle.wesl_link_split.proofs.Lists.{take_one, taken_all}
 
 pub loop-i-init : goal.loop-i-init
 loop-i-init c =

@@ -1,10 +1,10 @@
 use Rattle.std.proofs.Common.{◌∙◌, ap, map, subst, sym, ◌+◌, take, []}
 use Rattle.wesl_link_tables.specs.Numbering.{AreRelated, IsRelatedOption, NameAt}
 use Rattle.wesl_link_tables.specs.NumbersView.{numbering}
-use Rattle.wesl_link_tables.proofs.Lists.{taken_all}
 use Rattle.wesl_link_tables.proofs.Naming.{node_name, node_names, named_next}
 use Rattle.wesl_link_tables.proofs.Related.{grows_itself, grows_trans}
 use Rattle.wesl_link_tables.proofs.reading.add_names.Goals as goal
+use Rattle.wesl_link_split.proofs.Lists.{taken_all}
 
 pub loop-node-init : goal.loop-node-init
 loop-node-init c =

@@ -7,12 +7,12 @@ use Rattle.wesl_link_tables.specs.Parts.{declared_as}
 use Rattle.wesl_link_tables.specs.Reading.{unit_in, own_path}
 use Rattle.wesl_link_tables.specs.Tables.{uses}
 use Rattle.wesl_link_tables.proofs.Added.{numbered_later}
-use Rattle.wesl_link_tables.proofs.Holding.{get_itself}
-use Rattle.wesl_link_tables.proofs.Lists.{taken_all}
 use Rattle.wesl_link_tables.proofs.Marking.{alike}
 use Rattle.wesl_link_tables.proofs.Tabling.{places_length, pieces_length, made_in, made_length, names_length, piece_bounds, declared_next, marked_next, names_more}
 use Rattle.wesl_link_tables.proofs.Related.{grows_itself, grows_trans}
 use Rattle.wesl_link_tables.proofs.table.add_declarations.Goals as goal
+use Rattle.wesl_link_split.proofs.Lists.{taken_all}
+use Rattle.wesl_link_split.proofs.Orders.{itself}
 
 pub loop-i-init : goal.loop-i-init
 loop-i-init c =
@@ -69,7 +69,7 @@ loop-i-preserved c =
       declared = subst (λ ds. AreNumberedDeclarations b ds (take (k + 1) (made_in r))) (sym c.in_ok-add.ensures.declarations)
           (declared_next r c.requires.read k c.index.result.now c.end_of-end.result bound c.index.ensures until a b g
           (alike r b c.mark_piece.new.numbers.names.different c.mark_piece.new.numbers.paths.different (numbered_later (numbering c.args.numbers.now) b all r c.requires.numbered)) c.args.names.now (get_or c.args.names.now k None)
-          (names_more (numbering c.args.numbers.now) b all c.args.names.now _ c.requires.named) (get_itself c.args.names.now k None c.loop-i-test.true)
+          (names_more (numbering c.args.numbers.now) b all c.args.names.now _ c.requires.named) (itself c.args.names.now k None c.loop-i-test.true)
           one.asked c.in_ok-one.ensures.references c.in_ok-one.ensures.unclear _ (ap (λ p. declared_as (get_or c.args.names.now k None) p one) c.place_of-place.ensures) c.loop-i.declared.declarations.items c.loop-i.invariant.declared);
       marked = subst (λ ms. AreMarked b ms (take (k + 1) (uses (own_path r) (unit_in r)))) (sym c.in_ok-add.ensures.marks)
           (marked_next r c.requires.read k c.index.result.now c.end_of-end.result bound c.index.ensures until a b g one.marks c.in_ok-one.ensures.marks c.loop-i.declared.marks.items c.loop-i.invariant.marked);

@@ -1,12 +1,12 @@
 use Rattle.std.proofs.Common.{◌<◌, ◌∙◌, ◌++◌, ◌∷◌, [], ap, length, sym, subst, map, take}
 use Rattle.wesl_tree_syntax.specs.Unit.{name_in}
 use Rattle.wesl_link_tables.proofs.Known.{below_later, import_same}
-use Rattle.wesl_link_tables.proofs.Lists.{taken_all}
 use Rattle.wesl_link_tables.specs.Numbering.{AreNumberedImports, IsNumberedImport}
 use Rattle.wesl_link_tables.specs.NumbersView.{numbering}
 use Rattle.wesl_link_tables.specs.Spelling.{respell_import, spelled_import}
 use Rattle.wesl_link_tables.proofs.Related.{grows_itself, grows_trans, imports_one, names_later, map_next}
 use Rattle.wesl_link_tables.proofs.table.add_imports.Goals as goal
+use Rattle.wesl_link_split.proofs.Lists.{taken_all}
 
 pub loop-i-init : goal.loop-i-init
 loop-i-init c =

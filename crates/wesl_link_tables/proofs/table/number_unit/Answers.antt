@@ -7,8 +7,8 @@ use Rattle.wesl_link_tables.proofs.Declared.{spelled_same}
 use Rattle.wesl_link_tables.proofs.Known.{found_later}
 use Rattle.wesl_link_tables.proofs.Naming.{declared_are}
 use Rattle.wesl_link_tables.proofs.Related.{grows_trans, imports_later, names_later}
-use Rattle.wesl_link_tables.proofs.Walked.{on_ok}
 use Rattle.wesl_link_tables.proofs.table.number_unit.Goals as goal
+use Rattle.wesl_link_split.proofs.Lists.{on_ok}
 
 pub add_imports-requires-clause-ids : goal.add_imports-requires-clause-ids
 add_imports-requires-clause-ids c =

@@ -1,6 +1,7 @@
 use Rattle.std.proofs.Common.{◌<◌, length, None, sym, ◌∙◌, rules}
-use Rattle.wesl_rows_link.proofs.Lists.{element_is, element_of}
+use Rattle.wesl_rows_link.proofs.Lists.{element_is}
 use Rattle.wesl_rows_link.proofs.tables.first_meaning.Goals as goal
+use Rattle.wesl_link_reach.proofs.Growing.{element_of}
 
 pub denotes-requires-clause-held : goal.denotes-requires-clause-held
 denotes-requires-clause-held c =

@@ -4,8 +4,9 @@ use Rattle.wesl_validate_builtins.specs.Builtins.{builtins_view}
 use Rattle.wesl_validate_rules.specs.Known.{IsNamedBy}
 use Rattle.wesl_validate_rules.specs.Valid.{IsDefined, AreDistinct, IsAcyclic, IsValidWesl}
 use Rattle.wesl_validate_calls.specs.Found.{IsFault}
-use Rattle.wesl_validate_calls.proofs.Telling.{on_some, on_none, none_of}
+use Rattle.wesl_validate_calls.proofs.Telling.{none_of}
 use Rattle.wesl_validate_calls.proofs.fault.fault_among.Goals as goal
+use Rattle.wesl_validate_rules.proofs.Stepping.{on_none, on_some}
 
 pub returns-clause-fault : goal.returns-clause-fault
 returns-clause-fault c =

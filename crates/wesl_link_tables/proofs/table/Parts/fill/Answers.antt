@@ -11,8 +11,8 @@ use Rattle.wesl_link_tables.specs.Parts.{settled_in}
 use Rattle.wesl_link_tables.specs.Tables.{scope_of, table_at}
 use Rattle.wesl_link_tables.proofs.Alike.{settled_alike}
 use Rattle.wesl_link_tables.proofs.Related.{imports_later}
-use Rattle.wesl_link_tables.proofs.Walked.{on_ok}
 use Rattle.wesl_link_tables.proofs.table.Parts.fill.Goals as goal
+use Rattle.wesl_link_split.proofs.Lists.{on_ok}
 
 pub returns-clause-imports : goal.returns-clause-imports
 returns-clause-imports c =

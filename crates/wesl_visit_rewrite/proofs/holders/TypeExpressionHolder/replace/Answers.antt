@@ -1,7 +1,7 @@
 use Rattle.wesl_tree_syntax.specs.View.{type_view}
 use Rattle.wesl_visit_rewrite.proofs.Roots.{type_root}
-use Rattle.wesl_visit_rewrite.proofs.Views.{type_label}
 use Rattle.wesl_visit_rewrite.proofs.holders.TypeExpressionHolder.replace.Goals as goal
+use Rattle.wesl_visit_collect.proofs.Variants.{type_label}
 
 pub returns-clause-replaced : goal.returns-clause-replaced
 returns-clause-replaced g c =

@@ -5,11 +5,12 @@ use Rattle.wesl_tree_syntax.specs.Tree.{binary, call, call_expression, indexing,
 use Rattle.wesl_tree_syntax.specs.View.{argument_view, expression_tree, expression_view, type_view}
 use Rattle.wesl_tree_syntax.specs.declared.expression.FunctionCall.{out-FunctionCall}
 use Rattle.wesl_tree_syntax.specs.declared.expression.TemplateArg.{roll-TemplateArg}
-use Rattle.wesl_visit_rewrite.proofs.Expressions.{literal_hollow, type_after, type_none, type_some}
+use Rattle.wesl_visit_rewrite.proofs.Expressions.{type_after, type_none, type_some}
 use Rattle.wesl_visit_rewrite.proofs.Steps.{beside, boxed, first_all, first_none, inside, passed_step, taken_else, taken_if, unmoved, viewed, went_list}
-use Rattle.wesl_visit_rewrite.proofs.Views.{type_label}
 use Rattle.wesl_visit_rewrite.proofs.replace.expression.+replacing.Goals as goal
 use Rattle.wesl_tree_syntax.proofs.Views.{view_argument, view_argument_of, view_binary, view_call, view_call_expression, view_call_of, view_indexing, view_literal, view_name, view_named, view_parenthesized, view_unary}
+use Rattle.wesl_visit_collect.proofs.Parts.{literal_hollow}
+use Rattle.wesl_visit_collect.proofs.Variants.{type_label}
 
 pub in_expression-returns-in-Literal : goal.in_expression-returns-in-Literal
 in_expression-returns-in-Literal g t c =

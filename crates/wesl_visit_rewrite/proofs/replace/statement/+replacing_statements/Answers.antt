@@ -13,10 +13,11 @@ use Rattle.wesl_tree_syntax.specs.declared.statement.Statement.{Statement, out-S
 use Rattle.wesl_tree_syntax.specs.declared.statement.SwitchClause.{out-SwitchClause}
 use Rattle.wesl_visit_collect.specs.Picks.{seeks_statements}
 use Rattle.wesl_visit_collect.specs.Finished.{Finished}
-use Rattle.wesl_visit_rewrite.proofs.Statements.{CompoundStatement_is, CompoundStatement_of, ContinuingStatement_is, ContinuingStatement_of, ElseClause_is, ElseClause_of, ElseIfClause_is, ElseIfClause_of, IfClause_is, IfClause_of, SwitchClause_is, SwitchClause_of, view_Assignment}
+use Rattle.wesl_visit_rewrite.proofs.Statements.{CompoundStatement_is, CompoundStatement_of, ContinuingStatement_is, ContinuingStatement_of, ElseClause_is, ElseClause_of, ElseIfClause_is, ElseIfClause_of, IfClause_is, IfClause_of, SwitchClause_is, SwitchClause_of}
 use Rattle.wesl_visit_rewrite.proofs.Steps.{beside, first_all, first_none, from, inside, passed_step, taken_else, taken_if, unmoved, viewed, went_list}
 use Rattle.wesl_visit_rewrite.proofs.replace.statement.+replacing_statements.Goals as goal
 use Rattle.wesl_tree_syntax.proofs.Views.{view_block, view_break, view_call_statement, view_const_assert, view_continue, view_decrement, view_discard, view_for, view_if, view_increment, view_local, view_loop, view_return, view_switch, view_void, view_while}
+use Rattle.wesl_visit_collect.proofs.Statements.{view_Assignment}
 
 pub in_statement-returns-in-Void : goal.in_statement-returns-in-Void
 in_statement-returns-in-Void g t c =

@@ -1,8 +1,8 @@
 use Rattle.std.proofs.Common.{refl}
 use Rattle.wesl_tree_syntax.specs.Tree.{declaration, kind}
-use Rattle.wesl_visit_rewrite.proofs.Parts.{kind_hollow}
 use Rattle.wesl_visit_rewrite.proofs.Steps.{beside, inside, unmoved}
 use Rattle.wesl_visit_rewrite.proofs.replace.statement.in_declaration.Goals as goal
+use Rattle.wesl_visit_collect.proofs.Parts.{kind_hollow}
 
 pub returns : goal.returns
 returns g c =
