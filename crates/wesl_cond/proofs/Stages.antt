@@ -12,9 +12,7 @@ use Rattle.wesl_cond_features.specs.Features.{Replies, known, by_number, HoldsNo
 use Rattle.wesl_tree_names.specs.Path.{Text}
 use Rattle.wesl_tree_names.specs.declared.errors.Diagnostic.{Diagnostic}
 use Rattle.wesl_tree_syntax.specs.Unit.{UnitView, UnitOf, forest_of_unit, trees_of, name_in}
-
-abbrev with_trees : List Text → UnitOf ℕ → UnitView
-with_trees names t = record { names = names; imports = t.imports; directives = t.directives; declarations = t.declarations }
+use Rattle.wesl_cond_unit.proofs.Whole.{with_trees}
 
 left_twice : TwiceIsOnce → (reply : Replies Text) (u : UnitView) → left_of reply (left_of reply u) ≡ left_of reply u
 left_twice twice reply u = ap (with_trees u.names) (twice (known (by_number u.names reply)) (trees_of u))

@@ -16,16 +16,16 @@ use Rattle.wesl_cond_features.specs.Answers.{Answers}
 use Rattle.wesl_tree_syntax.specs.Tree.{Label, Forest, Tree, end, tree, before, forest_of}
 
 -- One branch.
-abbrev open_one : Label → Forest → Element ℕ
+abbrev pub open_one : Label → Forest → Element ℕ
 open_one l c = record { closes = false; label = l; children = c }
 
-abbrev fate_of : Answers ℕ → Bool → Bool → Element ℕ → Option Role
+abbrev pub fate_of : Answers ℕ → Bool → Bool → Element ℕ → Option Role
 fate_of answers k d x = fate (is_branch still x && k) (is_branch still x && d) (branch still answers x)
 
-abbrev next_kept : Answers ℕ → Bool → Bool → Element ℕ → Bool
+abbrev pub next_kept : Answers ℕ → Bool → Bool → Element ℕ → Bool
 next_kept answers k d x = kept_after (is_branch still x && k) (is_branch still x && d) (branch still answers x)
 
-abbrev next_decided : Answers ℕ → Bool → Element ℕ → Bool
+abbrev pub next_decided : Answers ℕ → Bool → Element ℕ → Bool
 next_decided answers d x = decided_after (is_branch still x && d) (branch still answers x)
 
 -- The nodes that stay, branch by branch.

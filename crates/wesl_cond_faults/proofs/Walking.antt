@@ -1,17 +1,15 @@
 -- What is told of a list, node by node.
-use Rattle.std.proofs.Common.{◌≡◌, ℕ, Bool, true, false, cond, ◌&&◌, List, [], ◌∷◌, ◌++◌, map, drop, length, ◌≤◌, ◌<◌, ◌+◌, get_or, Option, Some, None, sym, ap, ◌∙◌, subst}
+use Rattle.std.proofs.Common.{◌≡◌, ℕ, Bool, true, false, cond, List, [], ◌∷◌, ◌++◌, map, drop, length, ◌≤◌, ◌<◌, ◌+◌, get_or, Option, Some, None, sym, ap, ◌∙◌, subst}
 use Rattle.std.proofs.lemmas.List.{drop_more}
 use Rattle.wesl_cond_features.specs.declared.chain.Role.{Role}
 use Rattle.wesl_cond_chains.proofs.Begun.{none_left}
 use Rattle.wesl_cond_chains.proofs.Taken.{elements_as}
-use Rattle.wesl_cond_chains.specs.Chains.{residual_after, is_branch, branch}
+use Rattle.wesl_cond_chains.specs.Chains.{residual_after}
 use Rattle.wesl_cond_chains.specs.Conditions.{is_void}
 use Rattle.wesl_cond_chains.specs.Following.{IsTurn}
 use Rattle.wesl_cond_chains.specs.Judging.{closing}
 use Rattle.wesl_cond_chains.specs.Lists.{Element, still, elements, back, alone, is_entered}
 use Rattle.wesl_cond_chains.specs.Nodes.{as_element}
-use Rattle.wesl_cond_features.specs.Answers.{Answers}
-use Rattle.wesl_cond_features.specs.Branch.{fate, kept_after, decided_after}
 use Rattle.wesl_cond_features.specs.Features.{Replies, known}
 use Rattle.wesl_cond_unit.proofs.Walk.{enact, scan, scan_after}
 use Rattle.wesl_cond_unit.proofs.Walked.{on_from, staying_is}
@@ -22,6 +20,7 @@ use Rattle.wesl_cond_faults.specs.Telling.{AddsAll}
 use Rattle.wesl_cond_faults.specs.declared.told.Told.{Told}
 use Rattle.wesl_tree_names.specs.Path.{Text}
 use Rattle.wesl_tree_syntax.specs.Tree.{Label, Forest, Tree, end, tree, before, forest_of}
+use Rattle.wesl_cond_chains.proofs.Closing.{fate_of, next_decided, next_kept}
 
 module _ (names : List Text) (reply : Replies ℕ) where
   passes : (k d k' d' b : Bool) (t : Tree) → b ≡ false → IsTurn still (known reply) k d (as_element false t) k' d' (as_element false t) b → (rest : List (Element ℕ)) → on_from reply k d (as_element false t ∷ rest) ≡ on_from reply k' d' rest
@@ -80,15 +79,6 @@ module _ (names : List Text) (reply : Replies ℕ) where
     listed_none i b le h = owes_none names reply (forest_of (map view xs)) a b (owes_same names reply (forest_of (map view xs)) (forest_of (map view (drop i xs))) end a b (ap (λ ys. forest_of (map view ys)) (none_left xs i le)) h)
 
 -- One branch.
-abbrev fate_of : Answers ℕ → Bool → Bool → Element ℕ → Option Role
-fate_of answers k d x = fate (is_branch still x && k) (is_branch still x && d) (branch still answers x)
-
-abbrev next_kept : Answers ℕ → Bool → Bool → Element ℕ → Bool
-next_kept answers k d x = kept_after (is_branch still x && k) (is_branch still x && d) (branch still answers x)
-
-abbrev next_decided : Answers ℕ → Bool → Element ℕ → Bool
-next_decided answers d x = decided_after (is_branch still x && d) (branch still answers x)
-
 module _ (reply : Replies ℕ) where
   -- nodes that hold no list
   module _ {A : Type 0} (view : A → Tree) (leaf : (x : A) → is_entered (view x).label ≡ false) where

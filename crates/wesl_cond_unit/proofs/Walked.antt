@@ -1,17 +1,16 @@
 -- What stays of a list, walked node by node.
-use Rattle.std.proofs.Common.{◌≡◌, ℕ, Bool, true, false, cond, ◌&&◌, List, [], ◌∷◌, ◌++◌, map, drop, length, ◌≤◌, ◌<◌, ◌+◌, get_or, zero, suc, filter, inl, inr, Option, Some, None, Result, Ok, Err, refl, sym, ap, ◌∙◌, subst, append-nil, arith}
+use Rattle.std.proofs.Common.{◌≡◌, ℕ, Bool, true, false, cond, List, [], ◌∷◌, ◌++◌, map, drop, length, ◌≤◌, ◌<◌, ◌+◌, get_or, zero, suc, filter, inl, inr, Option, Some, None, Result, Ok, Err, refl, sym, ap, ◌∙◌, subst, append-nil, arith}
 use Rattle.std.specs.List.{flat_map}
 use Rattle.std.proofs.lemmas.List.{drop_more}
 use Rattle.wesl_cond_chains.specs.Places.{StandsAt, Place}
 use Rattle.wesl_cond_features.specs.declared.chain.Role.{Role}
-use Rattle.wesl_cond_chains.specs.Chains.{staying, residual_chain, residual_after, headed, later, live, chains, is_node, is_branch, branch}
+use Rattle.wesl_cond_chains.specs.Chains.{staying, residual_chain, residual_after, headed, later, live, chains, is_node}
 use Rattle.wesl_cond_chains.specs.Conditions.{is_void}
 use Rattle.wesl_cond_chains.specs.Faults.{beside}
 use Rattle.wesl_cond_chains.specs.Judging.{IsClear, Checks, closing, RefusesIn}
 use Rattle.wesl_cond_chains.specs.Lists.{Element, element, still, elements, back, alone, is_entered}
 use Rattle.wesl_cond_chains.specs.Nodes.{as_element}
 use Rattle.wesl_cond_chains.specs.Following.{IsTurn}
-use Rattle.wesl_cond_features.specs.Branch.{fate, kept_after, decided_after}
 use Rattle.wesl_cond_unit.proofs.Walk.{enact, scan, scan_is, scan_after}
 use Rattle.wesl_cond_unit.proofs.Standing.{stay, split, nothing, clear_leaf, passed_by, refuses_more, first_refused}
 use Rattle.wesl_cond_features.specs.Answers.{Answers}
@@ -20,6 +19,7 @@ use Rattle.wesl_tree_names.specs.Path.{Text}
 use Rattle.wesl_tree_names.specs.declared.errors.Diagnostic.{Diagnostic}
 use Rattle.wesl_tree_syntax.specs.Tree.{Label, Forest, Tree, end, tree, before, forest_of}
 use Rattle.wesl_cond_chains.proofs.Taken.{elements_as}
+use Rattle.wesl_cond_chains.proofs.Closing.{fate_of, next_decided, next_kept, open_one}
 
 -- the nodes of the rest of a list that stay, where a branch of the chain before is kept, one was true
 abbrev pub on_from : Replies ℕ → Bool → Bool → List (Element ℕ) → Forest
@@ -34,20 +34,8 @@ Walks names reply kept decided x kept' decided' (Err e) = (rest : List (Element 
 
 -- A list as elements.
 -- One branch.
-abbrev open_one : Label → Forest → Element ℕ
-open_one l c = record { closes = false; label = l; children = c }
-
 abbrev closing_one : Label → Forest → Element ℕ
 closing_one l c = record { closes = true; label = l; children = c }
-
-abbrev fate_of : Answers ℕ → Bool → Bool → Element ℕ → Option Role
-fate_of answers k d x = fate (is_branch still x && k) (is_branch still x && d) (branch still answers x)
-
-abbrev next_kept : Answers ℕ → Bool → Bool → Element ℕ → Bool
-next_kept answers k d x = kept_after (is_branch still x && k) (is_branch still x && d) (branch still answers x)
-
-abbrev next_decided : Answers ℕ → Bool → Element ℕ → Bool
-next_decided answers d x = decided_after (is_branch still x && d) (branch still answers x)
 
 -- The nodes that stay, branch by branch.
 module _ (answers : Answers ℕ) where

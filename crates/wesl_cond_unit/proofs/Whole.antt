@@ -18,7 +18,7 @@ use Rattle.wesl_tree_syntax.specs.declared.span.Spanned.{Spanned}
 use Rattle.wesl_tree.specs.Parts.{parts_view}
 use Rattle.std.proofs.lemmas.Bool.{and_parts}
 
-abbrev with_trees : List Text → UnitOf ℕ → UnitView
+abbrev pub with_trees : List Text → UnitOf ℕ → UnitView
 with_trees names t = record { names = names; imports = t.imports; directives = t.directives; declarations = t.declarations }
 
 whole_equal : (names : List Text) (i i' d d' g g' : Tree) → i ≡ i' → d ≡ d' → g ≡ g'

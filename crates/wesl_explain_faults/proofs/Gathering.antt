@@ -16,7 +16,7 @@ use Rattle.wesl_link_faults.proofs.Over.{IsOver, all, next, over_with, start, wi
 use Rattle.wesl_explain_faults.specs.declared.faults.FaultAt.{FaultAt}
 use Rattle.wesl_explain_faults.specs.declared.faults.Wrong.{Wrong}
 use Rattle.wesl_explain_faults.specs.Gathering.{AreAskers, AreWrongs, HaveAskers, IsFoundIn, wrong_in}
-use Rattle.wesl_link_faults.proofs.Searching.{puts_cases}
+use Rattle.wesl_link_faults.proofs.Searching.{puts_cases, puts_keep}
 use Rattle.wesl_link_reach.proofs.Following.{puts_has}
 
 -- that one asks for the fault in one of the findings
@@ -24,10 +24,6 @@ abbrev pub IsAskedIn : List Finding → Wrong → Asker PathId NameId → Type 0
 IsAskedIn told w a = (f : Finding) × Contains told f × (wrong_in f ≡ w) × (f.asker ≡ a)
 
 -- a key stays, or is the one that was put
-pub puts_kept : {K : Type 0} (old new : List K) (k x : K) → PutsKey old k new → Contains old x → Contains new x
-puts_kept {K} old new k x (inl (there, e)) h = subst (λ (xs : List K). Contains xs x) (sym e) h
-puts_kept {K} old new k x (inr (fresh, e)) h = subst (λ (xs : List K). Contains xs x) (sym e) (Contains-append_left old (k ∷ []) x h)
-
 -- one finding more is tied
 pub tie_next : (told : List Finding) (i : ℕ) (d : Finding) (k : Wrong) (o : Option ℕ) (latest fresh : List (Wrong × ℕ)) (earlier longer : List (Option ℕ))
     → i < length told → k ≡ wrong_in (slice_index_or told i d) → Chains wrong_in told i latest earlier
@@ -57,7 +53,7 @@ pub first_next : (told : List Finding) (i : ℕ) (d : Finding) (old new : List W
     → ((f : Finding) → Contains (take i told) f → Contains old (wrong_in f)) → (f : Finding) → Contains (take (i + 1) told) f → Contains new (wrong_in f)
 first_next told i d old new k b is put before f h =
     elim (Contains-push_cases (take i told) (slice_index_or told i d) f (subst (λ (fs : List Finding). Contains fs f) (take_more told i d b) h)) [
-      | inl was ↦ puts_kept old new k (wrong_in f) put (before f was)
+      | inl was ↦ puts_keep old new k (wrong_in f) put (before f was)
       | inr same ↦ subst (λ (q : Wrong). Contains new q) (is ∙ ap wrong_in same) (puts_has old new k put)
     ]
 

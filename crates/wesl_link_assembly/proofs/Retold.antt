@@ -15,7 +15,7 @@ use Rattle.wesl_link_assembly.proofs.Units.{one_unit}
 use Rattle.wesl_link_assembly.proofs.Renumbered.{paired}
 use Rattle.wesl_scope_clash.proofs.Canonical.{mapped_length}
 
-abbrev forget : {I : Type 0} → I → Unit {0}
+abbrev pub forget : {I : Type 0} → I → Unit {0}
 forget i = tt
 
 told_at : {X Y : Type 0} (f : X → Y) (xs : List X) (i : ℕ) (d : X) (e : Y) → i < length xs → get_or (map f xs) i e ≡ f (get_or xs i d)

@@ -2,13 +2,11 @@
 use Rattle.std.proofs.Common.{◌≡◌, List, [], ◌∷◌, ◌++◌, sym, refl, ◌∙◌, ap, append_assoc}
 use Rattle.wesl_tree_syntax.specs.Tree.{ForestOf, TreeOf, end, tree, forest_of, kind, at, ident, text, texts, truth, unary, binary, assignment, space, access, path, identifiers, respell_label, respell_forest}
 use Rattle.wesl_link_assembly.specs.Linked.{shape}
+use Rattle.wesl_link_assembly.proofs.Retold.{forget}
 
 abbrev pub side_by_side : {I : Type 0} → ForestOf I → ForestOf I → ForestOf I
 side_by_side end g = g
 side_by_side (tree l children others) g = tree l children (side_by_side others g)
-
-abbrev forget : {I : Type 0} → I → Unit {0}
-forget i = tt
 
 module _ {I : Type 0} where
   pub forests_joined : (ts us : List (TreeOf I)) → forest_of (ts ++ us) ≡ side_by_side (forest_of ts) (forest_of us)

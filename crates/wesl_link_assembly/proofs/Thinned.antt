@@ -13,15 +13,13 @@ use Rattle.wesl_link_assembly.specs.Directives.{last, AreThinned}
 use Rattle.wesl_link_assembly.specs.Directives.Thins.{none as none_thinned, other, again}
 use Rattle.wesl_link_assembly.proofs.Replaced.{replaced_twice, identifiers_replaced}
 use Rattle.wesl_link_assembly.proofs.SideBySide.{side_by_side, forests_joined, shapes_joined, identifiers_joined}
+use Rattle.wesl_link_assembly.proofs.Retold.{forget}
 
 abbrev Nodes : Type 0
 Nodes = Vec (Spanned GlobalDirective) Global
 
 abbrev node_trees : Nodes → List Tree
 node_trees v = map (placed directive_view directive_node) v.items
-
-abbrev forget : {I : Type 0} → I → Unit {0}
-forget i = tt
 
 pub last_is : {X : Type 0} (xs : List X) (x : X) → last (xs ++ x ∷ []) ≡ Some x
 last_is [] x = refl

@@ -20,9 +20,7 @@ use Rattle.wesl_link_assembly.proofs.Units.{one_unit}
 use Rattle.wesl_link_assembly.proofs.Renumbered.{same_shape}
 use Rattle.wesl_link_assembly.proofs.Numbering.{Numbered, at_number}
 use Rattle.wesl_scope_clash.proofs.Canonical.{mapped_length}
-
-abbrev forget : {I : Type 0} → I → Unit {0}
-forget i = tt
+use Rattle.wesl_link_assembly.proofs.Retold.{forget}
 
 -- each number that is below the count stands among the numbers, and no other does
 abbrev pub AreAllUsed : ℕ → List ℕ → Type 0

@@ -21,11 +21,6 @@ item_held [] i x b e = absurd (omega arith)
 item_held (y ∷ xs) zero x b e = subst (λ z. Contains (y ∷ xs) z) (sym e) (contains_first y xs)
 item_held (y ∷ xs) (suc i) x b e = contains_later y x xs (item_held xs i x (omega arith) e)
 
-pub at_has : {X : Type 0} (xs : List X) (i : ℕ) (x : X) → slice_get xs i ≡ Some x → Contains xs x
-at_has [] i x e = absurd (cc)
-at_has (y ∷ xs) zero x e = let f : y ≡ x = cc in subst (λ z. Contains (y ∷ xs) z) f (contains_first y xs)
-at_has (y ∷ xs) (suc i) x e = contains_later y x xs (at_has xs i x e)
-
 pub read_at : {X : Type 0} (xs : List X) (i : ℕ) (x : X) → i < length xs → x ≡ get_or xs i x → slice_get xs i ≡ Some x
 read_at xs i x b e = below_held xs i x b ∙ ap Some (sym e)
 

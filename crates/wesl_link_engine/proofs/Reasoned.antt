@@ -6,7 +6,7 @@ use Rattle.wesl_tree_names.specs.Path.{Text, Path, path_view}
 use Rattle.wesl_link_symbols.specs.declared.ids.PathId.{PathId}
 use Rattle.wesl_tree_base.specs.declared.ids.NameId.{NameId}
 use Rattle.wesl_link_symbols.specs.Tables.{Table}
-use Rattle.wesl_link_symbols.proofs.Lists.{contains_nil, contains_first, contains_later, contains_cases}
+use Rattle.wesl_link_symbols.proofs.Lists.{at_contains, contains_cases, contains_first, contains_later, contains_nil}
 use Rattle.wesl_link_reach.specs.World.{Task}
 use Rattle.wesl_link_reach.specs.Faults.{AreDistinct}
 use Rattle.wesl_link_reach.specs.Faults.AreDistinct.{none as none_distinct, one_more as one_distinct}
@@ -27,7 +27,6 @@ use Rattle.wesl_link_engine.specs.declared.steps.Step.{Step}
 use Rattle.wesl_link_engine.proofs.Built.{paths_one, names_one}
 use Rattle.wesl_link_engine.proofs.Carried.{Back, IsOneToOne, one_back, related_in, related_back, table_back, SameTask, Covers}
 use Rattle.wesl_link_engine.proofs.Chained.{SameNode, reason_to, held_to}
-use Rattle.wesl_link_engine.proofs.Lists.{at_has}
 use Rattle.wesl_link_engine.proofs.Texts.{path_is, name_is}
 
 -- of tables whose paths stand once each, one stands at a path
@@ -146,7 +145,7 @@ module _ (l : Link) (sound : IsLinkOf (task_in l) l) (root : PathId) (root_at : 
         let (m, held, f) = contains_map module_of (all_loaded l) n d in
         let (t, at, same_t, marked_t) = sound.tabled m held in
         let named : table (module_of m) ≡ u = ap table f ∙ e in
-        (t, at_has l.linked.tables m.place t at, subst (λ x. SameTable (Back (PathAt nb)) (Back (NameAt nb)) x t) named (table_back (PathAt nb) (NameAt nb) t (table (module_of m)) same_t));
+        (t, at_contains l.linked.tables m.place t at, subst (λ x. SameTable (Back (PathAt nb)) (Back (NameAt nb)) x t) named (table_back (PathAt nb) (NameAt nb) t (table (module_of m)) same_t));
   }
 
   same_task : SameTask (PathAt nb) (NameAt nb) a (task_in l)

@@ -21,7 +21,7 @@ use Rattle.wesl_link_reach.specs.Faults.{ambiguous, missing}
 use Rattle.wesl_link_reach.specs.Keeping.{IsHeld}
 use Rattle.wesl_link_reach.specs.Linking as linking
 use Rattle.wesl_link_symbols.proofs.Entries.{found_at}
-use Rattle.wesl_link_symbols.proofs.Lists.{contains_cases, contains_first, contains_later}
+use Rattle.wesl_link_symbols.proofs.Lists.{at_contains, contains_cases, contains_first, contains_later}
 use Rattle.wesl_link_reach.proofs.Lists.{contains_map, map_contains}
 use Rattle.wesl_link_reasons.specs.Reasons.{task_from}
 use Rattle.wesl_link_tables.specs.Numbering.{Numbering, AreRelated, Grows, NameAt, PathAt, AreDifferent, IsNumbered, SameTable}
@@ -46,7 +46,6 @@ use Rattle.wesl_link_engine.proofs.Built.{paths_one, names_one}
 use Rattle.wesl_link_engine.proofs.Found as found
 use Rattle.wesl_link_engine.proofs.Kept.{path_same, path_laws}
 use Rattle.wesl_link_engine.proofs.Holding.{IsFoundBy}
-use Rattle.wesl_link_engine.proofs.Lists.{at_has}
 use Rattle.wesl_link_engine.proofs.Marked.{marks_later}
 use Rattle.wesl_link_engine.proofs.Texts.{name_is}
 use Rattle.std.proofs.lemmas.Bool.{false_from_ne_true}
@@ -140,7 +139,7 @@ module _ (numbers : NumberTexts) (first : Numbering) (g : Grows first (numbering
         let (m, held, f) = contains_map module_of (first_loaded ∷ others.items) n d in
         let (t, at, same_t, marked_t) = tabled m held in
         let named : table (module_of m) ≡ u = ap table f ∙ e in
-        (t, at_has k.tables m.place t at, subst (λ x. SameTable (Back (PathAt nb)) (Back (NameAt nb)) x t) named (table_back (PathAt nb) (NameAt nb) t (table (module_of m)) same_t));
+        (t, at_contains k.tables m.place t at, subst (λ x. SameTable (Back (PathAt nb)) (Back (NameAt nb)) x t) named (table_back (PathAt nb) (NameAt nb) t (table (module_of m)) same_t));
   }
 
   abbrev a : Task PathId NameId

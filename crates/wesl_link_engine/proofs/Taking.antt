@@ -7,14 +7,13 @@ use Rattle.wesl_link_symbols.specs.Tables.{Table}
 use Rattle.wesl_link_reach.specs.Linking.{paths}
 use Rattle.wesl_link_reach.specs.Faults.{AreDistinct}
 use Rattle.wesl_link_reach.specs.Faults.AreDistinct.{one_more as one_distinct}
-use Rattle.wesl_link_symbols.proofs.Lists.{contains_nil, contains_first, contains_later}
+use Rattle.wesl_link_symbols.proofs.Lists.{at_contains, contains_first, contains_later, contains_nil}
 use Rattle.wesl_link_reach.proofs.Lists.{map_contains}
 use Rattle.wesl_link_tables.specs.Numbering.{Numbering, AreRelated}
 use Rattle.wesl_link_tables.proofs.Lists.{related_append, take_next}
 use Rattle.wesl_link_engine.specs.Taking.{unit_at, AreKept, IsTaken}
 use Rattle.wesl_link_engine.specs.declared.loaded.Held.{Held}
 use Rattle.wesl_link_engine.specs.declared.loaded.LoadedModule.{LoadedModule}
-use Rattle.wesl_link_engine.proofs.Lists.{at_has}
 
 pub drop_has : {X : Type 0} (xs : List X) (i : ℕ) (x : X) → slice_get xs i ≡ Some x → Contains (drop i xs) x
 drop_has [] i x e = absurd (cc)
@@ -51,4 +50,4 @@ taken_more numbering units ts i t ms new m below at all here e =
 -- the unit of a table that is left is still there
 pub unit_left : (numbering : Numbering) (before units : List (PathId × Held)) (ts : List (Table PathId NameId)) (i : ℕ) (t : Table PathId NameId) → AreKept numbering before ts → slice_get ts i ≡ Some t
     → ((u : Table PathId NameId) → Contains (drop i ts) u → unit_at units u.path ≡ unit_at before u.path) → (u : Held) × (unit_at units t.path ≡ Some u)
-unit_left numbering before units ts i t kept at left = let (u, e) = (kept t (at_has ts i t at)).1 in (u, left t (drop_has ts i t at) ∙ e)
+unit_left numbering before units ts i t kept at left = let (u, e) = (kept t (at_contains ts i t at)).1 in (u, left t (drop_has ts i t at) ∙ e)

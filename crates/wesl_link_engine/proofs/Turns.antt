@@ -21,8 +21,8 @@ use Rattle.wesl_link_engine.specs.declared.loaded.LoadedModule.{LoadedModule}
 use Rattle.wesl_link_engine.specs.declared.link.Link.{Link}
 use Rattle.wesl_link_engine.specs.declared.assemble.Parts.{Parts}
 use Rattle.wesl_link_engine.proofs.Tabled.{stands, numbered_there, marked_there}
-use Rattle.wesl_link_engine.proofs.Lists.{at_has}
 use Rattle.wesl_link_engine.proofs.Adding.{Node, HasNodes, OneAt, rows_many, marks_many, placed_many, told_at, row_held, marks_refer, marks_clear, adds_next}
+use Rattle.wesl_link_symbols.proofs.Lists.{at_contains}
 
 -- a module of a link that is whole
 pub whole : (l : Link) (m : LoadedModule) → IsLinkOf (task_in l) l → Contains (all_loaded l) m → IsModuleOf l l.numbers l.linked m
@@ -61,7 +61,7 @@ module _ (l : Link) (numbers : NumberTexts) (k : Linking PathId NameId) (m : Loa
 
       pub clear : IsHeldHere k t.path g.node row.name → AreClear ms
       clear held =
-          let t_in = at_has l.linked.tables m.place t (ap (λ (x : Linking PathId NameId). slice_get x.tables m.place) of.linked_is ∙ at) in
+          let t_in = at_contains l.linked.tables m.place t (ap (λ (x : Linking PathId NameId). slice_get x.tables m.place) of.linked_is ∙ at) in
           marks_clear l of.sound m i g row ms one t g.node t_in row_inside (subst (λ (x : Linking PathId NameId). IsHeldHere x t.path g.node row.name) (sym of.linked_is) held)
 
       pub next : (p q r : Parts) → AddsPlaced l (take i (placed (module_of m))) p q → AddsOne (numbering numbers) k t g row.name ms q r → AddsPlaced l (take (i + 1) (placed (module_of m))) p r

@@ -8,15 +8,15 @@ use Rattle.wesl_scope_occurrences.specs.Occurrences.{Block, Standing, module_nam
 use Rattle.wesl_scope_meanings.specs.Scopes.{is_visible, binds}
 use Rattle.wesl_link_laws.proofs.Aligned.{SameBlock, SamePlace, SameStanding}
 use Rattle.wesl_link_laws.proofs.Shaped.{Pathless}
-use Rattle.wesl_scope_clash.proofs.Canonical.{left, right}
+use Rattle.wesl_scope_open.proofs.Forests.{and_left, and_right}
 
 -- what binding a name says
 pub bound_so : (b : Block) (n : Text) (p : ℕ) (o : Occurrence Text) → binds b n p o ≡ true → (is_visible p o.role ≡ true) × (o.name ≡ n) × (o.block ≡ b)
 bound_so b n p o h =
-    let rest = right (is_visible p o.role) (bytes_eq o.name n && bytes_eq o.block b) h in (
-      left (is_visible p o.role) (bytes_eq o.name n && bytes_eq o.block b) h,
-      (bytes_eq-Decides o.name n).0 (left (bytes_eq o.name n) (bytes_eq o.block b) rest),
-      (bytes_eq-Decides o.block b).0 (right (bytes_eq o.name n) (bytes_eq o.block b) rest),
+    let rest = and_right (is_visible p o.role) (bytes_eq o.name n && bytes_eq o.block b) h in (
+      and_left (is_visible p o.role) (bytes_eq o.name n && bytes_eq o.block b) h,
+      (bytes_eq-Decides o.name n).0 (and_left (bytes_eq o.name n) (bytes_eq o.block b) rest),
+      (bytes_eq-Decides o.block b).0 (and_right (bytes_eq o.name n) (bytes_eq o.block b) rest),
     )
 
 pub binds_so : (b : Block) (n : Text) (p : ℕ) (o : Occurrence Text) → is_visible p o.role ≡ true → o.name ≡ n → o.block ≡ b → binds b n p o ≡ true

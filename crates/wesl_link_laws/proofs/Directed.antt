@@ -11,7 +11,7 @@ use Rattle.wesl_link_assembly.specs.Pathless.{without_paths}
 use Rattle.wesl_link_engine.specs.Worlds.{Module}
 use Rattle.wesl_link_engine.specs.Linked.{directives_in}
 use Rattle.wesl_link_laws.proofs.Aligned.{SameStanding, SameOccurrence, aligned}
-use Rattle.wesl_link_laws.proofs.Shaped.{shape, is_typed, is_type_shape, type_of_label, Pathless, alike_without}
+use Rattle.wesl_link_laws.proofs.Shaped.{is_typed, is_type_shape, type_of_label, Pathless, alike_without}
 use Rattle.wesl_link_laws.proofs.Grammar.{Every, every_append, sober_typed}
 use Rattle.wesl_link_laws.proofs.Wordy.{Directives, no_directive, one_directive, IsWord, directives_words}
 use Rattle.wesl_link_laws.proofs.Ranges.{every_held}
@@ -19,6 +19,7 @@ use Rattle.wesl_link_laws.proofs.Modules.{module_node, IsOutside}
 use Rattle.wesl_link_laws.proofs.Respelled.{IsGrammatical}
 use Rattle.wesl_link_laws.proofs.Laid.{same_outside}
 use Rattle.wesl_link_laws.proofs.Lists.{pairs_right}
+use Rattle.wesl_link_assembly.proofs.Renumbered.{shape_of}
 
 -- one directive
 abbrev pub IsDirective : TreeOf Text → Type 0
@@ -79,7 +80,7 @@ still_word a a' b b' n r s e h = by s (subst (λ x. SameStanding Pathless a a' b
     by word k = refl
     by _ k = absurd k
 
-pub all_words : (f : ForestOf Text) (g : ForestOf ℕ) → Directives f → shape g ≡ shape (without_paths f) → (p q : ℕ) (o : Occurrence ℕ) → Contains (occurrences_from module_node p q g) o → o.role ≡ word
+pub all_words : (f : ForestOf Text) (g : ForestOf ℕ) → Directives f → shape_of g ≡ shape_of (without_paths f) → (p q : ℕ) (o : Occurrence ℕ) → Contains (occurrences_from module_node p q g) o → o.role ≡ word
 all_words f g d e p q o held =
     let typed = directives_typed f d in
     let outer : IsOutside module_node = record { ahead = refl; others = refl; declares = refl; path = refl } in

@@ -8,7 +8,7 @@ use Rattle.wesl_scope_occurrences.specs.Occurrences.{Standing, module_name, para
 use Rattle.wesl_link_laws.proofs.Alike.{is_ident, shape_in, occurrences_unfold}
 use Rattle.wesl_link_laws.proofs.Shaped.{is_typed_at, is_typed, Seen, an_ident, no_ident, seen}
 use Rattle.wesl_mangle_forms.proofs.Cuts.{not-true}
-use Rattle.wesl_scope_clash.proofs.Canonical.{left, right}
+use Rattle.wesl_scope_open.proofs.Forests.{and_left, and_right}
 
 abbrev pub is_name : {I : Type 0} → LabelOf I → Bool
 is_name (ident binder x) = true
@@ -136,17 +136,17 @@ module _ {I : Type 0} (P : I → Type 0) where
   sober_well : (f : ForestOf I) → sober f ≡ true → AreWell f
   sober_well end h node p q = tt
   sober_well (tree l c o) h node p q =
-      let h1 = left (((not (is_name l) && not (is_parameter l)) && is_typed_at l c) && sober c) (sober o) h in
-      one_sober l (seen l) c o node p q (left (not (is_name l)) (not (is_parameter l)) (left (not (is_name l) && not (is_parameter l)) (is_typed_at l c) (left ((not (is_name l) && not (is_parameter l)) && is_typed_at l c) (sober c) h1)))
-      (sober_well c (right ((not (is_name l) && not (is_parameter l)) && is_typed_at l c) (sober c) h1))
-      (sober_well o (right (((not (is_name l) && not (is_parameter l)) && is_typed_at l c) && sober c) (sober o) h) (after_field node))
+      let h1 = and_left (((not (is_name l) && not (is_parameter l)) && is_typed_at l c) && sober c) (sober o) h in
+      one_sober l (seen l) c o node p q (and_left (not (is_name l)) (not (is_parameter l)) (and_left (not (is_name l) && not (is_parameter l)) (is_typed_at l c) (and_left ((not (is_name l) && not (is_parameter l)) && is_typed_at l c) (sober c) h1)))
+      (sober_well c (and_right ((not (is_name l) && not (is_parameter l)) && is_typed_at l c) (sober c) h1))
+      (sober_well o (and_right (((not (is_name l) && not (is_parameter l)) && is_typed_at l c) && sober c) (sober o) h) (after_field node))
 
   -- one such tree, before others
   then_others : (l : LabelOf I) (c o : ForestOf I) (node : Node Block) → sober (tree l c end) ≡ true → ((p q : ℕ) → Every WellAs (occurrences_from (after_field node) p q o)) → (p q : ℕ) → Every WellAs (occurrences_from node p q (tree l c o))
   then_others l c o node h rest p q =
-      let h1 = left (((not (is_name l) && not (is_parameter l)) && is_typed_at l c) && sober c) true h in
-      one_sober l (seen l) c o node p q (left (not (is_name l)) (not (is_parameter l)) (left (not (is_name l) && not (is_parameter l)) (is_typed_at l c) (left ((not (is_name l) && not (is_parameter l)) && is_typed_at l c) (sober c) h1)))
-      (sober_well c (right ((not (is_name l) && not (is_parameter l)) && is_typed_at l c) (sober c) h1)) rest
+      let h1 = and_left (((not (is_name l) && not (is_parameter l)) && is_typed_at l c) && sober c) true h in
+      one_sober l (seen l) c o node p q (and_left (not (is_name l)) (not (is_parameter l)) (and_left (not (is_name l) && not (is_parameter l)) (is_typed_at l c) (and_left ((not (is_name l) && not (is_parameter l)) && is_typed_at l c) (sober c) h1)))
+      (sober_well c (and_right ((not (is_name l) && not (is_parameter l)) && is_typed_at l c) (sober c) h1)) rest
 
 -- ---- in the blocks of functions
 abbrev InnerHere : Surroundings Block → Type 0
@@ -275,12 +275,12 @@ module _ {I : Type 0} where
 
   no_name : (l : LabelOf I) (c : ForestOf I) → sober (tree l c end) ≡ true → is_name l ≡ false
   no_name l c h =
-      let h1 = left (((not (is_name l) && not (is_parameter l)) && is_typed_at l c) && sober c) true h in
-      not-true (is_name l) (left (not (is_name l)) (not (is_parameter l)) (left (not (is_name l) && not (is_parameter l)) (is_typed_at l c) (left ((not (is_name l) && not (is_parameter l)) && is_typed_at l c) (sober c) h1)))
+      let h1 = and_left (((not (is_name l) && not (is_parameter l)) && is_typed_at l c) && sober c) true h in
+      not-true (is_name l) (and_left (not (is_name l)) (not (is_parameter l)) (and_left (not (is_name l) && not (is_parameter l)) (is_typed_at l c) (and_left ((not (is_name l) && not (is_parameter l)) && is_typed_at l c) (sober c) h1)))
 
   pub nameless_so : (P : I → Type 0) (f : ForestOf I) → nameless f ≡ true → AreSoNamed P f
   nameless_so P end h = tt
-  nameless_so P (tree l c o) h = (not_named P l (not-true (is_name l) (left (not (is_name l)) (nameless o) h)), nameless_so P o (right (not (is_name l)) (nameless o) h))
+  nameless_so P (tree l c o) h = (not_named P l (not-true (is_name l) (and_left (not (is_name l)) (nameless o) h)), nameless_so P o (and_right (not (is_name l)) (nameless o) h))
 
   pub function_once : (f : ForestOf I) → FunctionFields f → once_named f ≡ true
   function_once _ (fields_of {l = l} {m = m} {n = n} {c = c} {d = d} {e = e} hl hp hm hn ht hs) =
@@ -333,10 +333,10 @@ module _ {I : Type 0} (P : I → Type 0) where
       let a = d || not (is_name l) in
       let b = not (is_parameter l) in
       let t = is_typed_at l c in
-      let h1 = left (((a && b) && t) && quiet (is_declaration l) c) (quiet d o) h in
-      let h2 = left ((a && b) && t) (quiet (is_declaration l) c) h1 in
-      let h3 = left (a && b) t h2 in
-      one_quiet l (seen l) d c o (left a b h3) (right a b h3) (quiet_well (is_declaration l) c (right ((a && b) && t) (quiet (is_declaration l) c) h1)) (quiet_well d o (right (((a && b) && t) && quiet (is_declaration l) c) (quiet d o) h))
+      let h1 = and_left (((a && b) && t) && quiet (is_declaration l) c) (quiet d o) h in
+      let h2 = and_left ((a && b) && t) (quiet (is_declaration l) c) h1 in
+      let h3 = and_left (a && b) t h2 in
+      one_quiet l (seen l) d c o (and_left a b h3) (and_right a b h3) (quiet_well (is_declaration l) c (and_right ((a && b) && t) (quiet (is_declaration l) c) h1)) (quiet_well d o (and_right (((a && b) && t) && quiet (is_declaration l) c) (quiet d o) h))
 
   -- ---- functions
   parameters_well : (ps : ForestOf I) → Parameters ps → AreQuietlyWell false ps
@@ -391,8 +391,8 @@ module _ {I : Type 0} (P : I → Type 0) where
   plainly_well : (f : ForestOf I) → plainly f ≡ true → AreSoNamed P f → (node : Node Block) → OuterNode node → (p q : ℕ) → Every (WellAs P) (occurrences_from node p q f)
   plainly_well end h named node i p q = tt
   plainly_well (tree l c o) h named node i p q =
-      one_plainly l (seen l) named.0 c o node i p q (sober_well P c (right (is_typed_at l c) (sober c) (left (is_typed_at l c && sober c) (plainly o) h)))
-      (plainly_well o (right (is_typed_at l c && sober c) (plainly o) h) named.1 (after_field node) (outer_after node i))
+      one_plainly l (seen l) named.0 c o node i p q (sober_well P c (and_right (is_typed_at l c) (sober c) (and_left (is_typed_at l c && sober c) (plainly o) h)))
+      (plainly_well o (and_right (is_typed_at l c && sober c) (plainly o) h) named.1 (after_field node) (outer_after node i))
 
   -- ---- the global declarations
   pub globals_as : (f : ForestOf I) → Globals f → DeclareSo P f → (node : Node Block) → OuterNode node → (p q : ℕ) → Every (WellAs P) (occurrences_from node p q f)
@@ -420,10 +420,10 @@ module _ {I : Type 0} where
   sober_typed (tree l c o) h =
       let n = not (is_name l) && not (is_parameter l) in
       let t = is_typed_at l c in
-      let h1 = left ((n && t) && sober c) (sober o) h in
-      let ht = right n t (left (n && t) (sober c) h1) in
-      let hc = sober_typed c (right (n && t) (sober c) h1) in
-      let ho = sober_typed o (right ((n && t) && sober c) (sober o) h) in
+      let h1 = and_left ((n && t) && sober c) (sober o) h in
+      let ht = and_right n t (and_left (n && t) (sober c) h1) in
+      let hc = sober_typed c (and_right (n && t) (sober c) h1) in
+      let ho = sober_typed o (and_right ((n && t) && sober c) (sober o) h) in
       rw (ht, hc, ho) refl
 
   quiet_typed : (d : Bool) (f : ForestOf I) → quiet d f ≡ true → is_typed f ≡ true
@@ -431,28 +431,28 @@ module _ {I : Type 0} where
   quiet_typed d (tree l c o) h =
       let n = (d || not (is_name l)) && not (is_parameter l) in
       let t = is_typed_at l c in
-      let h1 = left ((n && t) && quiet (is_declaration l) c) (quiet d o) h in
-      let ht = right n t (left (n && t) (quiet (is_declaration l) c) h1) in
-      let hc = quiet_typed (is_declaration l) c (right (n && t) (quiet (is_declaration l) c) h1) in
-      let ho = quiet_typed d o (right ((n && t) && quiet (is_declaration l) c) (quiet d o) h) in
+      let h1 = and_left ((n && t) && quiet (is_declaration l) c) (quiet d o) h in
+      let ht = and_right n t (and_left (n && t) (quiet (is_declaration l) c) h1) in
+      let hc = quiet_typed (is_declaration l) c (and_right (n && t) (quiet (is_declaration l) c) h1) in
+      let ho = quiet_typed d o (and_right ((n && t) && quiet (is_declaration l) c) (quiet d o) h) in
       rw (ht, hc, ho) refl
 
   plainly_typed : (f : ForestOf I) → plainly f ≡ true → is_typed f ≡ true
   plainly_typed end h = refl
   plainly_typed (tree l c o) h =
-      let h1 = left (is_typed_at l c && sober c) (plainly o) h in
-      let ht = left (is_typed_at l c) (sober c) h1 in
-      let hc = sober_typed c (right (is_typed_at l c) (sober c) h1) in
-      let ho = plainly_typed o (right (is_typed_at l c && sober c) (plainly o) h) in
+      let h1 = and_left (is_typed_at l c && sober c) (plainly o) h in
+      let ht = and_left (is_typed_at l c) (sober c) h1 in
+      let hc = sober_typed c (and_right (is_typed_at l c) (sober c) h1) in
+      let ho = plainly_typed o (and_right (is_typed_at l c && sober c) (plainly o) h) in
       rw (ht, hc, ho) refl
 
   -- one tree of these
   one_typed : (l : LabelOf I) (c : ForestOf I) → sober (tree l c end) ≡ true → (is_typed_at l c && is_typed c) ≡ true
   one_typed l c h =
       let n = not (is_name l) && not (is_parameter l) in
-      let h1 = left ((n && is_typed_at l c) && sober c) true h in
-      let ht = right n (is_typed_at l c) (left (n && is_typed_at l c) (sober c) h1) in
-      let hc = sober_typed c (right (n && is_typed_at l c) (sober c) h1) in
+      let h1 = and_left ((n && is_typed_at l c) && sober c) true h in
+      let ht = and_right n (is_typed_at l c) (and_left (n && is_typed_at l c) (sober c) h1) in
+      let hc = sober_typed c (and_right (n && is_typed_at l c) (sober c) h1) in
       rw (ht, hc) refl
 
   then_typed : (l : LabelOf I) (c o : ForestOf I) → sober (tree l c end) ≡ true → is_typed o ≡ true → is_typed (tree l c o) ≡ true

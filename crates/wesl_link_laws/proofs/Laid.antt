@@ -12,12 +12,13 @@ use Rattle.wesl_link_assembly.specs.Pathless.{without_paths}
 use Rattle.wesl_link_engine.specs.Linked.{Denotation, StandsFor, AreMeanings, Joins}
 use Rattle.wesl_link_laws.proofs.Alike.{Pairs, is_ident, shape_in, count_unfolds, blocks_unfold, same_count, same_blocks}
 use Rattle.wesl_link_laws.proofs.Aligned.{SameOccurrence, SameHere, SameNode, aligned}
-use Rattle.wesl_link_laws.proofs.Shaped.{shape, label_of, beside, Outline, not_ident, is_typed, Pathless, alike_without}
+use Rattle.wesl_link_laws.proofs.Shaped.{label_of, beside, Outline, not_ident, is_typed, Pathless, alike_without}
 use Rattle.wesl_link_laws.proofs.Parts.{blocks_of, part_first}
 use Rattle.wesl_link_laws.proofs.Modules.{outside, IsOutside, later_outside}
 use Rattle.wesl_link_laws.proofs.Sources.{Source, own_part, use_in, placed_of, Before}
 use Rattle.wesl_link_laws.proofs.Lists.{same_parts, pairs_length, pairs_left, pairs_right, pairs_both, related_pairs, related_length, joined_so, InOrder}
 use Rattle.wesl_scope_clash.proofs.Canonical.{mapped_length}
+use Rattle.wesl_link_assembly.proofs.Renumbered.{shape_of}
 
 -- ---- nodes whose fields stand in the module's block
 pub same_outside : (a a' b b' n : ℕ) (s t : Node Block) → IsOutside s → IsOutside t → SameNode Pathless a a' b b' n false s t
@@ -44,7 +45,7 @@ alone (tree l c o) = tree l c end
 abbrev pub declarations_of : List Source → ForestOf Text
 declarations_of ss = forest_of (map (λ s. s.declaration) ss)
 
-one_aligned : (s : Source) (l : LabelOf ℕ) (c : ForestOf ℕ) (node : Node Block) (p q : ℕ) → IsOutside node → IsPlain s → shape (tree l c end) ≡ shape (without_paths (before s.declaration end))
+one_aligned : (s : Source) (l : LabelOf ℕ) (c : ForestOf ℕ) (node : Node Block) (p q : ℕ) → IsOutside node → IsPlain s → shape_of (tree l c end) ≡ shape_of (without_paths (before s.declaration end))
     → Pairs (SameOccurrence Pathless s.place p s.number q (blocks_of s.declaration)) (own_part s) (occurrences_from node p q (tree l c end))
 one_aligned s l c node p q out h e =
     let b : blocks_in (before s.declaration end) ≡ opens (shape_in s.declaration.label) + blocks_in s.declaration.children + 0 = blocks_unfold s.declaration.label s.declaration.children end h.plain in
@@ -57,7 +58,7 @@ record AreAsMany (s : Source) (l : LabelOf ℕ) (c : ForestOf ℕ) : Type 0 wher
   identifiers : count c ≡ count s.declaration.children
   blocks : opens (shape_in l) + blocks_in c ≡ blocks_of s.declaration
 
-as_many_in : (s : Source) (l : LabelOf ℕ) (c : ForestOf ℕ) → IsPlain s → shape (tree l c end) ≡ shape (without_paths (before s.declaration end)) → AreAsMany s l c
+as_many_in : (s : Source) (l : LabelOf ℕ) (c : ForestOf ℕ) → IsPlain s → shape_of (tree l c end) ≡ shape_of (without_paths (before s.declaration end)) → AreAsMany s l c
 as_many_in s l c h e =
     let alike = alike_without (before s.declaration end) (tree l c end) h.typed e in
     let n : is_ident l ≡ false = not_ident s.declaration.label l (ap label_of e) h.plain in
@@ -94,7 +95,7 @@ module _ (ws : List (Table Path Text)) (f : ℕ → Denotation) where
       (related_pairs (StandsFor ws s.home.path) (use_in s.home) (λ (o : Occurrence ℕ). f o.name) (own_part s) xs (pairs_length (SameOccurrence Pathless s.place p s.number q (blocks_of s.declaration)) (own_part s) xs h)
       (subst (AreRelated (StandsFor ws s.home.path) (map (use_in s.home) (own_part s))) e r))
 
-  pub laid : (ss : List Source) (g : ForestOf ℕ) (ms : List Denotation) (node : Node Block) (p q : ℕ) → IsOutside node → ((s : Source) → Contains ss s → IsPlain s) → shape g ≡ shape (without_paths (declarations_of ss))
+  pub laid : (ss : List Source) (g : ForestOf ℕ) (ms : List Denotation) (node : Node Block) (p q : ℕ) → IsOutside node → ((s : Source) → Contains ss s → IsPlain s) → shape_of g ≡ shape_of (without_paths (declarations_of ss))
       → Joins (AreMeanings ws) (map placed_of ss) ms → ms ≡ map (λ (o : Occurrence ℕ). f o.name) (occurrences_from node p q g) → AreLaid p q ss (occurrences_from node p q g)
   laid [] end ms node p q out each e j m = refl
   laid [] (tree l c o) ms node p q out each e j m = absurd (let z : ⊥ = cc in z)
@@ -102,7 +103,7 @@ module _ (ws : List (Table Path Text)) (f : ℕ → Denotation) where
   laid (s ∷ ss) (tree l c o) ms node p q out each e j m =
       let F : Occurrence ℕ → Denotation = λ o. f o.name in
       let h : IsPlain s = each s (contains_first s ss) in
-      let first : shape (tree l c end) ≡ shape (without_paths (before s.declaration end)) = ap alone e in
+      let first : shape_of (tree l c end) ≡ shape_of (without_paths (before s.declaration end)) = ap alone e in
       let many = as_many_in s l c h first in
       let xs = occurrences_from node p q (tree l c end) in
       let ys = occurrences_from (after_field node) (p + count s.declaration.children) (q + blocks_of s.declaration) o in

@@ -20,7 +20,6 @@ use Rattle.wesl_link_laws.proofs.ReadAs as reading
 use Rattle.wesl_link_laws.proofs.Whole.{names_printed, same_each}
 use Rattle.wesl_link_engine.specs.Worlds.{Module, tables}
 use Rattle.wesl_link_engine.specs.Linked.{Denotation, Placed, AreMeanings, Joins, IsAssembled}
-use Rattle.wesl_link_laws.proofs.Shaped.{shape}
 use Rattle.wesl_link_laws.proofs.Wordy.{Directives}
 use Rattle.wesl_link_laws.proofs.Modules.{globals_node, globals_outside, directives_part, globals_part, globals_place, globals_number}
 use Rattle.wesl_link_laws.proofs.Respelled.{IsGrammatical}
@@ -36,6 +35,7 @@ use Rattle.wesl_link_laws.proofs.Spelled.{reads_right}
 use Rattle.wesl_link_laws.proofs.Follow.{StandSo, follow}
 use Rattle.wesl_link_laws.proofs.Meant.{IsLaidOut, InUnit, stand_so}
 use Rattle.wesl_scope_clash.proofs.Canonical.{mapped_twice}
+use Rattle.wesl_link_assembly.proofs.Renumbered.{shape_of}
 
 module _ (lead : WaysLeadOutwards) (identified : OccurrencesAreIdentifiers) (w : List Module) (task : Task Path Text) (names : Path → Text → Text) (u : UnitView) (a : IsAssembled w task names u)
     (gs : (m : Module) → Contains w m → IsGrammatical m.unit) (distinct : AreDistinct (map (λ (m : Module). m.path) w)) (entered : (m : Module) → Contains w m → Entered (tables w) task m.path) where
@@ -75,10 +75,10 @@ module _ (lead : WaysLeadOutwards) (identified : OccurrencesAreIdentifiers) (w :
       let (n, inside, e) = contains_map free_name (identifiers (forest_of a.directives)) (means o.name) (subst (λ ds. Contains ds (means o.name)) (sym cut_so.0) (map_contains Means (directives_part (trees_of u)) o c)) in
       (n, sym e)
 
-  shaped : shape u.declarations.children ≡ shape (without_paths (declarations_of srcs.sources))
+  shaped : shape_of u.declarations.children ≡ shape_of (without_paths (declarations_of srcs.sources))
   shaped =
       assembled.declarations_shape
-      ∙ ap (λ ts. shape (without_paths (forest_of ts))) (ap (map (λ (d : Placed). d.declaration)) srcs.same ∙ mapped_twice placed_of (λ (d : Placed). d.declaration) srcs.sources)
+      ∙ ap (λ ts. shape_of (without_paths (forest_of ts))) (ap (map (λ (d : Placed). d.declaration)) srcs.same ∙ mapped_twice placed_of (λ (d : Placed). d.declaration) srcs.sources)
 
   pub lay : IsLaidOut (tables w) srcs.sources means (ways_of (trees_of u)) all_in
   lay = record {

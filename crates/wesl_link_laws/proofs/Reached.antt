@@ -1,7 +1,5 @@
 -- What a held declaration refers to is reached.
-use Rattle.std.proofs.Common.{◌≡◌, ℕ, List, [], ◌∷◌, ◌++◌, Option, Some, None, refl, sym, subst, ◌⊎◌, inl, inr, Contains}
-use Rattle.std.specs.Prelude.{flat_map}
-use Rattle.std.proofs.lemmas.List.Elements.{Contains-append_left, Contains-append_right}
+use Rattle.std.proofs.Common.{◌≡◌, ℕ, List, Option, Some, None, refl, Contains}
 use Rattle.wesl_tree_names.specs.Path.{Text, Path}
 use Rattle.wesl_tree_syntax.specs.Tree.{TreeOf}
 use Rattle.wesl_link_symbols.specs.declared.symbols.Reference.{Reference}
@@ -10,19 +8,11 @@ use Rattle.wesl_link_symbols.specs.declared.symbols.LookUp.{LookUp}
 use Rattle.wesl_link_symbols.specs.Tables.{Table}
 use Rattle.wesl_link_symbols.specs.Names.{AsksFrom, asked_for}
 use Rattle.wesl_link_reach.specs.World.{Task, Entered, Reached, Followed, led_to, by_assert, by_symbol}
-use Rattle.wesl_link_symbols.proofs.Lists.{contains_nil, contains_cases}
 use Rattle.wesl_link_tables.specs.Tables.{name_of, scope_of, declaration_of}
 use Rattle.wesl_link_tables.specs.Uses.{Use, asked}
 use Rattle.wesl_link_engine.specs.Worlds.{Module}
 use Rattle.wesl_link_engine.specs.Linked.{AskedLeadsTo}
-
-in_flat_map : {X Y : Type 0} (f : X → List Y) (xs : List X) (x : X) (y : Y) → Contains xs x → Contains (f x) y → Contains (flat_map f xs) y
-in_flat_map f [] x y held there = absurd (contains_nil x held)
-in_flat_map {X = X} {Y = Y} f (z ∷ xs) x y held there = by (contains_cases z x xs held) (in_flat_map f xs x y)
-  where
-    by : (z ≡ x) ⊎ Contains xs x → (Contains xs x → Contains (f x) y → Contains (flat_map f xs) y) → Contains (f z ++ flat_map f xs) y
-    by (inl e) rest = Contains-append_left (f z) (flat_map f xs) y (subst (λ v. Contains (f v) y) (sym e) there)
-    by (inr h) rest = Contains-append_right (f z) (flat_map f xs) y (rest h there)
+use Rattle.wesl_link_engine.proofs.Lists.{in_flat_map}
 
 module _ (w : List (Table Path Text)) (task : Task Path Text) (t : Table Path Text) (here : Contains w t) (entered : Entered w task t.path) where
   followed : (name : Option Text) (l : LookUp Path Text) → ((n : Text) → name ≡ Some n → Reached w task (record { path = t.path; name = n })) → AsksFrom t name l → Followed w task l

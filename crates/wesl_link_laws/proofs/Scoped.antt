@@ -8,7 +8,7 @@ use Rattle.wesl_tree_names.specs.Path.{Text}
 use Rattle.wesl_scope_occurrences.specs.Occurrences.{Block, Occurrence}
 use Rattle.wesl_scope_meanings.specs.Scopes.{is_visible, binds, binder_of}
 use Rattle.wesl_link_symbols.proofs.Lists.{contains_first, contains_later}
-use Rattle.wesl_scope_clash.proofs.Canonical.{left, right}
+use Rattle.wesl_scope_open.proofs.Forests.{and_left, and_right}
 
 -- the first that passes a test is one of the list, and passes it
 module _ {X : Type 0} (test : X → Bool) where
@@ -42,12 +42,12 @@ module _ (all : List (Occurrence Text)) (n : Text) (p : ℕ) where
   meant_in : (b : Block) (o : Occurrence Text) → find (binds b n p) all ≡ Some o → IsMeant all n p b o
   meant_in b o e =
       let f = found (binds b n p) all o e in
-      let rest = right (is_visible p o.role) (bytes_eq o.name n && bytes_eq o.block b) f.1 in
+      let rest = and_right (is_visible p o.role) (bytes_eq o.name n && bytes_eq o.block b) f.1 in
       record {
         held = f.0;
-        visible = left (is_visible p o.role) (bytes_eq o.name n && bytes_eq o.block b) f.1;
-        named = (bytes_eq-Decides o.name n).0 (left (bytes_eq o.name n) (bytes_eq o.block b) rest);
-        around = subst (Around o.block) ((bytes_eq-Decides o.block b).0 (right (bytes_eq o.name n) (bytes_eq o.block b) rest)) itself;
+        visible = and_left (is_visible p o.role) (bytes_eq o.name n && bytes_eq o.block b) f.1;
+        named = (bytes_eq-Decides o.name n).0 (and_left (bytes_eq o.name n) (bytes_eq o.block b) rest);
+        around = subst (Around o.block) ((bytes_eq-Decides o.block b).0 (and_right (bytes_eq o.name n) (bytes_eq o.block b) rest)) itself;
       }
 
   or_outer : (k : ℕ) (b : Block) (o : Occurrence Text) (here : Option (Occurrence Text)) → find (binds (k ∷ b) n p) all ≡ here → (binder_of all n p b ≡ Some o → IsMeant all n p b o) → option_or here (binder_of all n p b) ≡ Some o → IsMeant all n p (k ∷ b) o

@@ -8,10 +8,8 @@ use Rattle.wesl_scope_occurrences.specs.Occurrences.{Shape, of_type, opens, path
 use Rattle.wesl_link_assembly.specs.Pathless.{without_path, has_words, without_paths}
 use Rattle.wesl_link_laws.proofs.Alike.{is_ident, shape_in, words_in, Alike, none, identifier, a_node, hollow}
 use Rattle.std.proofs.lemmas.Bool.{or_left}
-use Rattle.wesl_scope_clash.proofs.Canonical.{left, right as and_right}
-
-abbrev pub shape : {I : Type 0} → ForestOf I → ForestOf (Unit {0})
-shape = respell_forest (λ i. tt)
+use Rattle.wesl_link_assembly.proofs.Renumbered.{shape_of}
+use Rattle.wesl_scope_open.proofs.Forests.{and_left, and_right}
 
 abbrev pub bare : {I : Type 0} → LabelOf I → LabelOf (Unit {0})
 bare = respell_label (λ i. tt)
@@ -115,9 +113,9 @@ module _ {I : Type 0} where
   seen (access v) = no_ident (access v) refl
   seen (path v) = no_ident (path v) refl
 
--- trees of one shape are alike
-module _ {I J : Type 0} (P : Option Path → Option Path → Type 0) (Q : Bool → Type 0) (step : (w v : Bool) → Q w → Q (w || v)) (choose : (w : Bool) → Q w → (sh : Shape) (c : ForestOf I) (d : ForestOf J) → shape d ≡ shape c → (w ≡ true) ⊎ P (path_of sh c) (path_of sh d)) where
-  pub alike_shape : (w : Bool) → Q w → (f : ForestOf I) (g : ForestOf J) → shape g ≡ shape f → Alike P w f g
+-- trees of one shape_of are alike
+module _ {I J : Type 0} (P : Option Path → Option Path → Type 0) (Q : Bool → Type 0) (step : (w v : Bool) → Q w → Q (w || v)) (choose : (w : Bool) → Q w → (sh : Shape) (c : ForestOf I) (d : ForestOf J) → shape_of d ≡ shape_of c → (w ≡ true) ⊎ P (path_of sh c) (path_of sh d)) where
+  pub alike_shape : (w : Bool) → Q w → (f : ForestOf I) (g : ForestOf J) → shape_of g ≡ shape_of f → Alike P w f g
   alike_shape w q end end e = none
   alike_shape w q end (tree m d h) e = absurd (let z : ⊥ = cc in z)
   alike_shape w q (tree l c o) end e = absurd (let z : ⊥ = cc in z)
@@ -190,15 +188,15 @@ abbrev pub Pathless : Option Path → Option Path → Type 0
 Pathless p q = q ≡ None
 
 module _ {I J : Type 0} where
-  in_words : (w : Bool) → w ≡ true → (sh : Shape) (c : ForestOf I) (d : ForestOf J) → shape d ≡ shape c → (w ≡ true) ⊎ Pathless (path_of sh c) (path_of sh d)
+  in_words : (w : Bool) → w ≡ true → (sh : Shape) (c : ForestOf I) (d : ForestOf J) → shape_of d ≡ shape_of c → (w ≡ true) ⊎ Pathless (path_of sh c) (path_of sh d)
   in_words w h sh c d e = inl h
 
-  alike_words : (f : ForestOf I) (g : ForestOf J) → shape g ≡ shape f → Alike Pathless true f g
+  alike_words : (f : ForestOf I) (g : ForestOf J) → shape_of g ≡ shape_of f → Alike Pathless true f g
   alike_words = alike_shape Pathless (λ w. w ≡ true) or_left in_words true refl
 
 -- trees without paths
 abbrev pub IsAlikeWithout : {I : Type 0} (J : Type 0) → ForestOf I → Type 0
-IsAlikeWithout J f = (g : ForestOf J) → is_typed f ≡ true → shape g ≡ shape (without_paths f) → Alike Pathless false f g
+IsAlikeWithout J f = (g : ForestOf J) → is_typed f ≡ true → shape_of g ≡ shape_of (without_paths f) → Alike Pathless false f g
 
 -- those after the first
 abbrev AreOthersAlike : {I : Type 0} (J : Type 0) → ForestOf I → Type 0
@@ -211,7 +209,7 @@ type_shape _ h = absurd (let z : ⊥ = cc in z)
 
 module _ {I J : Type 0} where
   -- the fields of a type expression
-  alike_type : (c : ForestOf I) (d : ForestOf J) → PathField c → is_typed c ≡ true → AreOthersAlike J c → shape d ≡ shape (without_path (without_paths c)) → Alike Pathless false c d
+  alike_type : (c : ForestOf I) (d : ForestOf J) → PathField c → is_typed c ≡ true → AreOthersAlike J c → shape_of d ≡ shape_of (without_path (without_paths c)) → Alike Pathless false c d
   alike_type _ end (with_path p o) t rest e = absurd (let z : ⊥ = cc in z)
   alike_type _ end (no_path_there o) t rest e = absurd (let z : ⊥ = cc in z)
   alike_type _ (tree m (tree x y z) h) (with_path p o) t rest e = let ends = ap children_of e in absurd (let z : ⊥ = cc in z)
@@ -223,14 +221,14 @@ module _ {I J : Type 0} where
       let l = ap label_of e in
       hollow refl (not_ident {I = I} (kind absent) m l refl) refl (ap opens (same_shape_in {I = I} (kind absent) m l)) refl refl refl refl (λ node p q. refl) (λ node p q. refl) (rest h t (ap beside e))
 
-  pathless_type : (c : ForestOf I) (d : ForestOf J) → PathField c → shape d ≡ shape (without_path (without_paths c)) → path_of of_type d ≡ None
+  pathless_type : (c : ForestOf I) (d : ForestOf J) → PathField c → shape_of d ≡ shape_of (without_path (without_paths c)) → path_of of_type d ≡ None
   pathless_type _ end f e = refl
   pathless_type _ (tree m end h) f e = refl
   pathless_type _ (tree m (tree x y z) h) (with_path p o) e = let ends = ap children_of e in absurd (let z : ⊥ = cc in z)
   pathless_type _ (tree m (tree x y z) h) (no_path_there o) e = let ends = ap children_of e in absurd (let z : ⊥ = cc in z)
 
   module _ (m : LabelOf J) (c o : ForestOf I) (d h : ForestOf J) where
-    node_alike : (k : LabelOf I) (a b : Bool) → is_type k ≡ a → has_words k ≡ b → is_ident k ≡ false → bare m ≡ bare k → shape d ≡ shape (if a then without_path (without_paths c) else if b then c else without_paths c) → (if a then begins_with_path c else true) ≡ true → is_typed c ≡ true
+    node_alike : (k : LabelOf I) (a b : Bool) → is_type k ≡ a → has_words k ≡ b → is_ident k ≡ false → bare m ≡ bare k → shape_of d ≡ shape_of (if a then without_path (without_paths c) else if b then c else without_paths c) → (if a then begins_with_path c else true) ≡ true → is_typed c ≡ true
         → IsAlikeWithout J c → AreOthersAlike J c → Alike Pathless false o h → Alike Pathless false (tree k c o) (tree m d h)
     node_alike k true b ea eb n el ec t tc all others rest =
         let f = path_field c t in
@@ -247,7 +245,7 @@ module _ {I J : Type 0} where
         let sh : is_type_shape (shape_in k) ≡ false = sym (type_of_label k) ∙ ea in
         a_node n (not_ident k m el n) (same_shape_in k m el) (inr (no_path (shape_in k) d (not_type (shape_in k) sh))) (subst (λ v. Alike Pathless v c d) (sym w) (all d tc ec)) rest
 
-    one_alike : (k : LabelOf I) → Seen k → bare m ≡ bare k → shape d ≡ shape (if is_type k then without_path (without_paths c) else if has_words k then c else without_paths c) → is_typed_at k c ≡ true → is_typed c ≡ true
+    one_alike : (k : LabelOf I) → Seen k → bare m ≡ bare k → shape_of d ≡ shape_of (if is_type k then without_path (without_paths c) else if has_words k then c else without_paths c) → is_typed_at k c ≡ true → is_typed c ≡ true
         → IsAlikeWithout J c → AreOthersAlike J c → Alike Pathless false o h → Alike Pathless false (tree k c o) (tree m d h)
     one_alike _ (an_ident r x) el ec t tc all others rest = let y = same_ident r m el in subst (λ k. Alike Pathless false (tree (ident r x) c o) (tree k d h)) (sym y.1) (identifier rest)
     one_alike _ (no_ident k n) el ec t tc all others rest = node_alike k (is_type k) (has_words k) refl refl n el ec t tc all others rest
@@ -255,19 +253,19 @@ module _ {I J : Type 0} where
   both_alike : (f : ForestOf I) → IsAlikeWithout J f × AreOthersAlike J f
   both_alike end = (λ g t e. by g e, tt)
     where
-      by : (g : ForestOf J) → shape g ≡ end → Alike {I = I} Pathless false end g
+      by : (g : ForestOf J) → shape_of g ≡ end → Alike {I = I} Pathless false end g
       by end e = none
       by (tree m d h) e = absurd (let z : ⊥ = cc in z)
   both_alike (tree l c o) = (λ g t e. by (both_alike c) (both_alike o) g t e, (both_alike o).0)
     where
-      by : IsAlikeWithout J c × AreOthersAlike J c → IsAlikeWithout J o × AreOthersAlike J o → (g : ForestOf J) → is_typed (tree l c o) ≡ true → shape g ≡ shape (without_paths (tree l c o)) → Alike Pathless false (tree l c o) g
+      by : IsAlikeWithout J c × AreOthersAlike J c → IsAlikeWithout J o × AreOthersAlike J o → (g : ForestOf J) → is_typed (tree l c o) ≡ true → shape_of g ≡ shape_of (without_paths (tree l c o)) → Alike Pathless false (tree l c o) g
       by inner after end t e = absurd (let z : ⊥ = cc in z)
       by inner after (tree m d h) t e =
           let t1 = and_right (is_typed_at l c) (is_typed c && is_typed o) t in
-          one_alike m c o d h l (seen l) (ap label_of e) (ap children_of e) (left (is_typed_at l c) (is_typed c && is_typed o) t) (left (is_typed c) (is_typed o) t1) inner.0 inner.1
+          one_alike m c o d h l (seen l) (ap label_of e) (ap children_of e) (and_left (is_typed_at l c) (is_typed c && is_typed o) t) (and_left (is_typed c) (is_typed o) t1) inner.0 inner.1
           (after.0 h (and_right (is_typed c) (is_typed o) t1) (ap beside e))
 
-  pub alike_without : (f : ForestOf I) (g : ForestOf J) → is_typed f ≡ true → shape g ≡ shape (without_paths f) → Alike Pathless false f g
+  pub alike_without : (f : ForestOf I) (g : ForestOf J) → is_typed f ≡ true → shape_of g ≡ shape_of (without_paths f) → Alike Pathless false f g
   alike_without f = (both_alike f).0
 
 -- ---- names in place of numbers keep this

@@ -21,7 +21,7 @@ use Rattle.wesl_link_laws.proofs.Respelled.{IsGrammatical}
 use Rattle.wesl_link_laws.proofs.Sources.{Source, own_part, placed_of, row_of, has_row, AreSources}
 use Rattle.wesl_link_laws.proofs.Laid.{Related, has_source}
 use Rattle.wesl_link_laws.proofs.Meant.{IsLaidOut, stands_well, DenotesHere, denotes_here}
-use Rattle.wesl_scope_clash.proofs.Canonical.{left, right}
+use Rattle.wesl_scope_open.proofs.Forests.{and_left, and_right}
 
 -- what a binder of the module's block comes from is a name of the module
 role_so : (a a' b b' n : ℕ) (t v : Standing) (x y : Block) → SameStanding Pathless a a' b b' n t v → SameBlock Pathless a a' b b' n x y → StandsWell t x → is_binder v ≡ true → y ≡ [] → t ≡ module_name
@@ -70,10 +70,10 @@ module _ (w : List Module) (task : Task Path Text) (held : List Placed) (srcs : 
   of_global o c g = by (Contains-append_cases lay.words lay.globals o (subst (λ os. Contains os o) lay.parts c))
     where
       binds : is_binder o.role ≡ true
-      binds = left (is_binder o.role) (bytes_eq o.block []) g
+      binds = and_left (is_binder o.role) (bytes_eq o.block []) g
 
       outermost : o.block ≡ []
-      outermost = (bytes_eq-Decides o.block []).0 (right (is_binder o.role) (bytes_eq o.block []) g)
+      outermost = (bytes_eq-Decides o.block []).0 (and_right (is_binder o.role) (bytes_eq o.block []) g)
 
       by : Contains lay.words o ⊎ Contains lay.globals o → IsHeldSymbol w task (means o.name)
       by (inl i) = let f : is_binder word ≡ true = subst (λ v. is_binder v ≡ true) (lay.free_words o i).0 binds in absurd (let z : ⊥ = cc in z)

@@ -12,7 +12,7 @@ use Rattle.wesl_tree_syntax.specs.declared.expression.Expression.{Expression, ma
 use Rattle.wesl_tree_syntax.specs.declared.expression.FunctionCall.{FunctionCall, map-FunctionCall}
 use Rattle.wesl_tree_syntax.specs.declared.expression.TemplateArg.{TemplateArg, map-TemplateArg}
 use Rattle.wesl_tree_syntax.specs.declared.expression.TypeExpression.{TypeExpression, map-TypeExpression}
-use Rattle.wesl_tree_syntax.specs.declared.expression.Expression.TheOpen.{Expression-F, FunctionCall-F, TemplateArg-F, TypeExpression-F}
+use Rattle.wesl_tree_syntax.specs.declared.expression.Expression.TheOpen.{Expression-F, FunctionCall-F, TemplateArg-F}
 use Rattle.wesl_tree_syntax.specs.declared.expression.Expression.TheFolds.{ind-Expression, ind-FunctionCall, ind-TypeExpression, fold-roll-Expression, fold-roll-FunctionCall, fold-roll-TemplateArg, fold-roll-TypeExpression}
 use Rattle.wesl_tree_syntax.specs.declared.attribute.Attribute.{Attribute}
 use Rattle.wesl_tree_syntax.specs.declared.attribute.Attribute.TheVariants as attr
@@ -41,7 +41,8 @@ use Rattle.wesl_link_laws.proofs.Shaped.{is_typed_at}
 use Rattle.wesl_link_laws.proofs.Grammar.{is_name, is_parameter, is_declaration, sober, quiet, plainly, once_named, Parameters, no_parameter, one_parameter, FunctionFields, fields_of, Globals, no_more, a_function, another}
 use Rattle.std.proofs.lemmas.Bool.{or_right}
 use Rattle.wesl_mangle_forms.proofs.Cuts.{not-true}
-use Rattle.wesl_scope_clash.proofs.Canonical.{left, right}
+use Rattle.wesl_scope_open.proofs.Forests.{and_left, and_right}
+use Rattle.wesl_scope_open.proofs.Typed.{argument_seen, call_seen, clause_seen, compound_seen, continuing_seen, else_if_seen, else_seen, expression_seen, if_seen, statement_seen, type_seen}
 
 abbrev IsSober : Tree → Type 0
 IsSober t = (((not (is_name t.label) && not (is_parameter t.label)) && is_typed_at t.label t.children) && sober t.children) ≡ true
@@ -59,14 +60,14 @@ sober_quiet d (tree l c o) h =
     let n = not (is_name l) in
     let k = not (is_parameter l) in
     let t = is_typed_at l c in
-    let h1 = left (((n && k) && t) && sober c) (sober o) h in
-    let h2 = left ((n && k) && t) (sober c) h1 in
-    let h3 = left (n && k) t h2 in
-    let hn = or_right d n (left n k h3) in
-    let hk = right n k h3 in
-    let ht = right (n && k) t h2 in
-    let hc = sober_quiet (is_declaration l) c (right ((n && k) && t) (sober c) h1) in
-    let ho = sober_quiet d o (right (((n && k) && t) && sober c) (sober o) h) in
+    let h1 = and_left (((n && k) && t) && sober c) (sober o) h in
+    let h2 = and_left ((n && k) && t) (sober c) h1 in
+    let h3 = and_left (n && k) t h2 in
+    let hn = or_right d n (and_left n k h3) in
+    let hk = and_right n k h3 in
+    let ht = and_right (n && k) t h2 in
+    let hc = sober_quiet (is_declaration l) c (and_right ((n && k) && t) (sober c) h1) in
+    let ho = sober_quiet d o (and_right (((n && k) && t) && sober c) (sober o) h) in
     rw (hn, hk, ht, hc, ho) refl
 
 sober_tree_quiet : (t : Tree) → IsSober t → IsQuiet t
@@ -74,12 +75,12 @@ sober_tree_quiet s h =
     let n = not (is_name s.label) in
     let k = not (is_parameter s.label) in
     let t = is_typed_at s.label s.children in
-    let h2 = left ((n && k) && t) (sober s.children) h in
-    let h3 = left (n && k) t h2 in
-    let hn = left n k h3 in
-    let hk = right n k h3 in
-    let ht = right (n && k) t h2 in
-    let hc = sober_quiet (is_declaration s.label) s.children (right ((n && k) && t) (sober s.children) h) in
+    let h2 = and_left ((n && k) && t) (sober s.children) h in
+    let h3 = and_left (n && k) t h2 in
+    let hn = and_left n k h3 in
+    let hk = and_right n k h3 in
+    let ht = and_right (n && k) t h2 in
+    let hc = sober_quiet (is_declaration s.label) s.children (and_right ((n && k) && t) (sober s.children) h) in
     rw (hn, hk, ht, hc) refl
 
 -- ---- expressions
@@ -98,18 +99,6 @@ Sober_type = (t : TypeExpression) × IsSober (type_view t)
 literal_sober : (l : LiteralValue) → IsSober (literal_tree l)
 literal_sober (literals.Bool b) = refl
 literal_sober (literals.Text s) = refl
-
-abbrev expression_seen : Expression-F Expression FunctionCall TemplateArg TypeExpression → Tree
-expression_seen x = expression_step (map-Expression Expression FunctionCall TemplateArg TypeExpression Tree Tree Tree Tree expression_view call_view argument_view type_view x)
-
-abbrev call_seen : FunctionCall-F Expression FunctionCall TemplateArg TypeExpression → Tree
-call_seen x = call_step (map-FunctionCall Expression FunctionCall TemplateArg TypeExpression Tree Tree Tree Tree expression_view call_view argument_view type_view x)
-
-abbrev argument_seen : TemplateArg-F Expression FunctionCall TemplateArg TypeExpression → Tree
-argument_seen x = argument_step (map-TemplateArg Expression FunctionCall TemplateArg TypeExpression Tree Tree Tree Tree expression_view call_view argument_view type_view x)
-
-abbrev type_seen : TypeExpression-F Expression FunctionCall TemplateArg TypeExpression → Tree
-type_seen x = type_step (map-TypeExpression Expression FunctionCall TemplateArg TypeExpression Tree Tree Tree Tree expression_view call_view argument_view type_view x)
 
 expression_each : (y : Expression-F Sober_expression Sober_call Sober_argument Sober_type)
     → IsSober (expression_seen (map-Expression Sober_expression Sober_call Sober_argument Sober_type Expression FunctionCall TemplateArg TypeExpression (λ e. e.0) (λ e. e.0) (λ e. e.0) (λ e. e.0) y))
@@ -263,7 +252,7 @@ declaration_plainly d = rw (attributes_sober d.attributes.items, kind_plain d.ki
 
 -- the name that a declaration binds is the one name among its fields
 sober_unnamed : (t : Tree) → IsSober t → is_name t.label ≡ false
-sober_unnamed s h = not-true (is_name s.label) (left (not (is_name s.label)) (not (is_parameter s.label)) (left (not (is_name s.label) && not (is_parameter s.label)) (is_typed_at s.label s.children) (left ((not (is_name s.label) && not (is_parameter s.label)) && is_typed_at s.label s.children) (sober s.children) h)))
+sober_unnamed s h = not-true (is_name s.label) (and_left (not (is_name s.label)) (not (is_parameter s.label)) (and_left (not (is_name s.label) && not (is_parameter s.label)) (is_typed_at s.label s.children) (and_left ((not (is_name s.label) && not (is_parameter s.label)) && is_typed_at s.label s.children) (sober s.children) h)))
 
 kind_unnamed : (k : DeclarationKind) → is_name (kind_tree k).label ≡ false
 kind_unnamed kinds.Const = refl
@@ -286,8 +275,8 @@ sober_plain : (t : Tree) → IsSober t → plain_tree t ≡ true
 sober_plain s h =
     let n = not (is_name s.label) && not (is_parameter s.label) in
     let t = is_typed_at s.label s.children in
-    let ht = right n t (left (n && t) (sober s.children) h) in
-    let hc = right (n && t) (sober s.children) h in
+    let ht = and_right n t (and_left (n && t) (sober s.children) h) in
+    let hc = and_right (n && t) (sober s.children) h in
     rw (ht, hc) refl
 
 assert_quiet : (c : ConstAssert) → IsQuiet (assert_view c)
@@ -349,44 +338,23 @@ OfIfClause = (x : IfClause) × IsQuiet (if_view x)
 abbrev OfSwitchClause : Type 0
 OfSwitchClause = (x : SwitchClause) × IsQuiet (clause_view x)
 
-abbrev statement_seen : Statement-F Statement CompoundStatement ContinuingStatement ElseClause ElseIfClause IfClause SwitchClause → Tree
-statement_seen x = statement_step (map-Statement Statement CompoundStatement ContinuingStatement ElseClause ElseIfClause IfClause SwitchClause Tree Tree Tree Tree Tree Tree Tree statement_view compound_view continuing_view else_view else_if_view if_view clause_view x)
-
 abbrev statement_open : Statement-F OfStatement OfCompoundStatement OfContinuingStatement OfElseClause OfElseIfClause OfIfClause OfSwitchClause → Statement-F Statement CompoundStatement ContinuingStatement ElseClause ElseIfClause IfClause SwitchClause
 statement_open y = map-Statement OfStatement OfCompoundStatement OfContinuingStatement OfElseClause OfElseIfClause OfIfClause OfSwitchClause Statement CompoundStatement ContinuingStatement ElseClause ElseIfClause IfClause SwitchClause (λ e. e.0) (λ e. e.0) (λ e. e.0) (λ e. e.0) (λ e. e.0) (λ e. e.0) (λ e. e.0) y
-
-abbrev compound_seen : CompoundStatement-F Statement CompoundStatement ContinuingStatement ElseClause ElseIfClause IfClause SwitchClause → Tree
-compound_seen x = compound_step (map-CompoundStatement Statement CompoundStatement ContinuingStatement ElseClause ElseIfClause IfClause SwitchClause Tree Tree Tree Tree Tree Tree Tree statement_view compound_view continuing_view else_view else_if_view if_view clause_view x)
 
 abbrev compound_open : CompoundStatement-F OfStatement OfCompoundStatement OfContinuingStatement OfElseClause OfElseIfClause OfIfClause OfSwitchClause → CompoundStatement-F Statement CompoundStatement ContinuingStatement ElseClause ElseIfClause IfClause SwitchClause
 compound_open y = map-CompoundStatement OfStatement OfCompoundStatement OfContinuingStatement OfElseClause OfElseIfClause OfIfClause OfSwitchClause Statement CompoundStatement ContinuingStatement ElseClause ElseIfClause IfClause SwitchClause (λ e. e.0) (λ e. e.0) (λ e. e.0) (λ e. e.0) (λ e. e.0) (λ e. e.0) (λ e. e.0) y
 
-abbrev continuing_seen : ContinuingStatement-F Statement CompoundStatement ContinuingStatement ElseClause ElseIfClause IfClause SwitchClause → Tree
-continuing_seen x = continuing_step (map-ContinuingStatement Statement CompoundStatement ContinuingStatement ElseClause ElseIfClause IfClause SwitchClause Tree Tree Tree Tree Tree Tree Tree statement_view compound_view continuing_view else_view else_if_view if_view clause_view x)
-
 abbrev continuing_open : ContinuingStatement-F OfStatement OfCompoundStatement OfContinuingStatement OfElseClause OfElseIfClause OfIfClause OfSwitchClause → ContinuingStatement-F Statement CompoundStatement ContinuingStatement ElseClause ElseIfClause IfClause SwitchClause
 continuing_open y = map-ContinuingStatement OfStatement OfCompoundStatement OfContinuingStatement OfElseClause OfElseIfClause OfIfClause OfSwitchClause Statement CompoundStatement ContinuingStatement ElseClause ElseIfClause IfClause SwitchClause (λ e. e.0) (λ e. e.0) (λ e. e.0) (λ e. e.0) (λ e. e.0) (λ e. e.0) (λ e. e.0) y
-
-abbrev else_seen : ElseClause-F Statement CompoundStatement ContinuingStatement ElseClause ElseIfClause IfClause SwitchClause → Tree
-else_seen x = else_step (map-ElseClause Statement CompoundStatement ContinuingStatement ElseClause ElseIfClause IfClause SwitchClause Tree Tree Tree Tree Tree Tree Tree statement_view compound_view continuing_view else_view else_if_view if_view clause_view x)
 
 abbrev else_open : ElseClause-F OfStatement OfCompoundStatement OfContinuingStatement OfElseClause OfElseIfClause OfIfClause OfSwitchClause → ElseClause-F Statement CompoundStatement ContinuingStatement ElseClause ElseIfClause IfClause SwitchClause
 else_open y = map-ElseClause OfStatement OfCompoundStatement OfContinuingStatement OfElseClause OfElseIfClause OfIfClause OfSwitchClause Statement CompoundStatement ContinuingStatement ElseClause ElseIfClause IfClause SwitchClause (λ e. e.0) (λ e. e.0) (λ e. e.0) (λ e. e.0) (λ e. e.0) (λ e. e.0) (λ e. e.0) y
 
-abbrev else_if_seen : ElseIfClause-F Statement CompoundStatement ContinuingStatement ElseClause ElseIfClause IfClause SwitchClause → Tree
-else_if_seen x = else_if_step (map-ElseIfClause Statement CompoundStatement ContinuingStatement ElseClause ElseIfClause IfClause SwitchClause Tree Tree Tree Tree Tree Tree Tree statement_view compound_view continuing_view else_view else_if_view if_view clause_view x)
-
 abbrev else_if_open : ElseIfClause-F OfStatement OfCompoundStatement OfContinuingStatement OfElseClause OfElseIfClause OfIfClause OfSwitchClause → ElseIfClause-F Statement CompoundStatement ContinuingStatement ElseClause ElseIfClause IfClause SwitchClause
 else_if_open y = map-ElseIfClause OfStatement OfCompoundStatement OfContinuingStatement OfElseClause OfElseIfClause OfIfClause OfSwitchClause Statement CompoundStatement ContinuingStatement ElseClause ElseIfClause IfClause SwitchClause (λ e. e.0) (λ e. e.0) (λ e. e.0) (λ e. e.0) (λ e. e.0) (λ e. e.0) (λ e. e.0) y
 
-abbrev if_seen : IfClause-F Statement CompoundStatement ContinuingStatement ElseClause ElseIfClause IfClause SwitchClause → Tree
-if_seen x = if_step (map-IfClause Statement CompoundStatement ContinuingStatement ElseClause ElseIfClause IfClause SwitchClause Tree Tree Tree Tree Tree Tree Tree statement_view compound_view continuing_view else_view else_if_view if_view clause_view x)
-
 abbrev if_open : IfClause-F OfStatement OfCompoundStatement OfContinuingStatement OfElseClause OfElseIfClause OfIfClause OfSwitchClause → IfClause-F Statement CompoundStatement ContinuingStatement ElseClause ElseIfClause IfClause SwitchClause
 if_open y = map-IfClause OfStatement OfCompoundStatement OfContinuingStatement OfElseClause OfElseIfClause OfIfClause OfSwitchClause Statement CompoundStatement ContinuingStatement ElseClause ElseIfClause IfClause SwitchClause (λ e. e.0) (λ e. e.0) (λ e. e.0) (λ e. e.0) (λ e. e.0) (λ e. e.0) (λ e. e.0) y
-
-abbrev clause_seen : SwitchClause-F Statement CompoundStatement ContinuingStatement ElseClause ElseIfClause IfClause SwitchClause → Tree
-clause_seen x = clause_step (map-SwitchClause Statement CompoundStatement ContinuingStatement ElseClause ElseIfClause IfClause SwitchClause Tree Tree Tree Tree Tree Tree Tree statement_view compound_view continuing_view else_view else_if_view if_view clause_view x)
 
 abbrev clause_open : SwitchClause-F OfStatement OfCompoundStatement OfContinuingStatement OfElseClause OfElseIfClause OfIfClause OfSwitchClause → SwitchClause-F Statement CompoundStatement ContinuingStatement ElseClause ElseIfClause IfClause SwitchClause
 clause_open y = map-SwitchClause OfStatement OfCompoundStatement OfContinuingStatement OfElseClause OfElseIfClause OfIfClause OfSwitchClause Statement CompoundStatement ContinuingStatement ElseClause ElseIfClause IfClause SwitchClause (λ e. e.0) (λ e. e.0) (λ e. e.0) (λ e. e.0) (λ e. e.0) (λ e. e.0) (λ e. e.0) y

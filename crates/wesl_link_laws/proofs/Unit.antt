@@ -11,15 +11,16 @@ use Rattle.wesl_link_assembly.specs.Pathless.{without_paths}
 use Rattle.wesl_link_assembly.proofs.Replaced.{replaced_twice}
 use Rattle.wesl_link_engine.specs.Linked.{Denotation, Placed, unit_of}
 use Rattle.wesl_link_laws.proofs.Alike.{is_ident, same_count}
-use Rattle.wesl_link_laws.proofs.Shaped.{shape, bare, label_of, children_of, beside, Pathless, alike_without}
+use Rattle.wesl_link_laws.proofs.Shaped.{bare, label_of, children_of, beside, Pathless, alike_without}
 use Rattle.wesl_link_laws.proofs.Parts.{as_many, count_is}
 use Rattle.wesl_link_laws.proofs.Wordy.{Directives}
 use Rattle.wesl_link_laws.proofs.Modules.{module_node, IsModule, in_parts, imports_part, directives_part, globals_part, directives_place, directives_number}
 use Rattle.wesl_link_laws.proofs.Directed.{directives_typed, all_words}
 use Rattle.wesl_link_laws.proofs.Lists.{same_parts}
 use Rattle.wesl_scope_clash.proofs.Canonical.{mapped_length}
+use Rattle.wesl_link_assembly.proofs.Renumbered.{shape_of}
 
-shape_again : {I J : Type 0} (g : I → J) (f : ForestOf I) → shape (respell_forest g f) ≡ shape f
+shape_again : {I J : Type 0} (g : I → J) (f : ForestOf I) → shape_of (respell_forest g f) ≡ shape_of f
 shape_again g f = sym (replaced_twice g (λ x. tt) (λ y. tt) (λ x. refl) f)
 
 label_kind : (l : LabelOf ℕ) (k : Kind) → bare l ≡ kind k → l ≡ kind k
@@ -36,7 +37,7 @@ label_kind (space v) k e = absurd (let z : ⊥ = cc in z)
 label_kind (access v) k e = absurd (let z : ⊥ = cc in z)
 label_kind (path v) k e = absurd (let z : ⊥ = cc in z)
 
-is_end : (f : ForestOf ℕ) → shape f ≡ end → f ≡ end
+is_end : (f : ForestOf ℕ) → shape_of f ≡ end → f ≡ end
 is_end end e = refl
 is_end (tree l c o) e = absurd (let z : ⊥ = cc in z)
 
@@ -45,23 +46,23 @@ pub record IsAssembledOf (directives : ForestOf Text) (declarations : ForestOf T
   pub imports : u.imports.label ≡ kind imports_kind
   pub no_imports : u.imports.children ≡ end
   pub directive_kind : u.directives.label ≡ kind directive_list
-  pub directives_shape : shape u.directives.children ≡ shape (without_paths directives)
+  pub directives_shape : shape_of u.directives.children ≡ shape_of (without_paths directives)
   pub declaration_kind : u.declarations.label ≡ kind declarations_kind
-  pub declarations_shape : shape u.declarations.children ≡ shape (without_paths declarations)
+  pub declarations_shape : shape_of u.declarations.children ≡ shape_of (without_paths declarations)
 
 pub assembled_of : (print : Denotation → Text) (directives : List (TreeOf Text)) (held : List Placed) (ds : List Denotation) (u : UnitView) → IsLinkedAs print (unit_of directives held) ds u
     → IsAssembledOf (forest_of directives) (forest_of (map (λ d. d.declaration) held)) (trees_of u)
 assembled_of print directives held ds u l =
-    let e : shape (forest_of_unit (trees_of u)) ≡ shape (without_paths (forest_of_unit (unit_of directives held))) =
+    let e : shape_of (forest_of_unit (trees_of u)) ≡ shape_of (without_paths (forest_of_unit (unit_of directives held))) =
     sym (shape_again (name_in u.names) (forest_of_unit (trees_of u)))
-    ∙ (ap (λ (w : UnitOf Text). shape (forest_of_unit w)) l.named
+    ∙ (ap (λ (w : UnitOf Text). shape_of (forest_of_unit w)) l.named
     ∙ (shape_again print (forest_of_unit l.linked) ∙ l.same_shape)) in
     let i : bare u.imports.label ≡ kind imports_kind = ap label_of e in
-    let n : shape u.imports.children ≡ end = ap children_of e in
+    let n : shape_of u.imports.children ≡ end = ap children_of e in
     let d : bare u.directives.label ≡ kind directive_list = ap (λ f. label_of (beside f)) e in
-    let ds : shape u.directives.children ≡ shape (without_paths (forest_of directives)) = ap (λ f. children_of (beside f)) e in
+    let ds : shape_of u.directives.children ≡ shape_of (without_paths (forest_of directives)) = ap (λ f. children_of (beside f)) e in
     let g : bare u.declarations.label ≡ kind declarations_kind = ap (λ f. label_of (beside (beside f))) e in
-    let gs : shape u.declarations.children ≡ shape (without_paths (forest_of (map (λ (x : Placed). x.declaration) held))) = ap (λ f. children_of (beside (beside f))) e in record {
+    let gs : shape_of u.declarations.children ≡ shape_of (without_paths (forest_of (map (λ (x : Placed). x.declaration) held))) = ap (λ f. children_of (beside (beside f))) e in record {
       imports = label_kind u.imports.label imports_kind i;
       no_imports = is_end u.imports.children n;
       directive_kind = label_kind u.directives.label directive_list d;

@@ -5,7 +5,7 @@ use Rattle.wesl_scope_occurrences.specs.Occurrences.{word, Block, Occurrence, Sh
 use Rattle.wesl_link_laws.proofs.Alike.{is_ident, shape_in, occurrences_unfold}
 use Rattle.wesl_link_laws.proofs.Shaped.{is_typed_at, Seen, an_ident, no_ident, seen}
 use Rattle.wesl_link_laws.proofs.Grammar.{is_name, is_parameter, sober, Every, every_append}
-use Rattle.wesl_scope_clash.proofs.Canonical.{left, right}
+use Rattle.wesl_scope_open.proofs.Forests.{and_left, and_right}
 
 abbrev InWords : Surroundings Block → Type 0
 InWords s = s.words ≡ true
@@ -75,8 +75,8 @@ module _ {I : Type 0} where
       let n = not (is_name l) in
       let k = not (is_parameter l) in
       let t = is_typed_at l c in
-      let h1 = left (((n && k) && t) && sober c) (sober o) h in
-      one_words l (seen l) c o (left n k (left (n && k) t (left ((n && k) && t) (sober c) h1))) (sober_words c (right ((n && k) && t) (sober c) h1)) (sober_words o (right (((n && k) && t) && sober c) (sober o) h))
+      let h1 = and_left (((n && k) && t) && sober c) (sober o) h in
+      one_words l (seen l) c o (and_left n k (and_left (n && k) t (and_left ((n && k) && t) (sober c) h1))) (sober_words c (and_right ((n && k) && t) (sober c) h1)) (sober_words o (and_right (((n && k) && t) && sober c) (sober o) h))
 
   -- directives
   pub data Directives : ForestOf I → Type 0 where

@@ -16,14 +16,7 @@ use Rattle.wesl_scope_clash.specs.Retargeted.{unbound_as, IsUnbound, FollowMeani
 use Rattle.wesl_scope_clash.proofs.Picked.{Picked, none, some, picked, all_filtered}
 use Rattle.wesl_scope_clash.proofs.Faith.{all_decides, if_decides}
 use Rattle.wesl_scope_occurrences.proofs.Ended.{other_default}
-
-pub left : (a b : Bool) → (a && b) ≡ true → a ≡ true
-left true b h = refl
-left false b h = h
-
-pub right : (a b : Bool) → (a && b) ≡ true → b ≡ true
-right true b h = h
-right false b h = cc
+use Rattle.wesl_scope_open.proofs.Forests.{and_left, and_right}
 
 -- the key of a binder
 pub binder_key : (all : List (Occurrence Text)) (x : Occurrence Text) (r : Standing) → is_binder r ≡ true → key_as all x r ≡ bound x.block x.name
@@ -89,14 +82,14 @@ module _ (names : List Text) (all : List (Occurrence ℕ)) where
 
   global_key : (o : Occurrence ℕ) → is_global o ≡ true → meant o ≡ bound [] (name_of names all o)
   global_key o h =
-      binder_key spelled_all (named names o) o.role (left (is_binder o.role) (bytes_eq o.block []) h)
-      ∙ ap (λ b. bound b (name_of names all o)) ((bytes_eq-Decides o.block []).0 (right (is_binder o.role) (bytes_eq o.block []) h))
+      binder_key spelled_all (named names o) o.role (and_left (is_binder o.role) (bytes_eq o.block []) h)
+      ∙ ap (λ b. bound b (name_of names all o)) ((bytes_eq-Decides o.block []).0 (and_right (is_binder o.role) (bytes_eq o.block []) h))
 
   pub bound_key : (o : Occurrence ℕ) (b : Block) (n : Text) (p : ℕ) → binds b n p (named names o) ≡ true → meant o ≡ bound b n
   bound_key o b n p h =
-      let rest = right (is_visible p o.role) (bytes_eq (name_of names all o) n && bytes_eq o.block b) h in
-      binder_key spelled_all (named names o) o.role (visible_binder p o.role (left (is_visible p o.role) (bytes_eq (name_of names all o) n && bytes_eq o.block b) h))
-      ∙ ap₂ bound ((bytes_eq-Decides o.block b).0 (right (bytes_eq (name_of names all o) n) (bytes_eq o.block b) rest)) ((bytes_eq-Decides (name_of names all o) n).0 (left (bytes_eq (name_of names all o) n) (bytes_eq o.block b) rest))
+      let rest = and_right (is_visible p o.role) (bytes_eq (name_of names all o) n && bytes_eq o.block b) h in
+      binder_key spelled_all (named names o) o.role (visible_binder p o.role (and_left (is_visible p o.role) (bytes_eq (name_of names all o) n && bytes_eq o.block b) h))
+      ∙ ap₂ bound ((bytes_eq-Decides o.block b).0 (and_right (bytes_eq (name_of names all o) n) (bytes_eq o.block b) rest)) ((bytes_eq-Decides (name_of names all o) n).0 (and_left (bytes_eq (name_of names all o) n) (bytes_eq o.block b) rest))
 
   module _ (same : AreMeant) where
     -- all of those that pass a test
@@ -197,7 +190,7 @@ module _ (names : List Text) (all : List (Occurrence ℕ)) (follow : FollowMeani
       let n = name_of names all o in
       let f = first_passing (λ b. binds y.block n o.place (named names b)) all x more (sym e ∙ at) in
       let number : x.name ≡ o.name = (subst (AgreeOn names all o.name) at a) 0 x (omega arith) in
-      binds_as f.0 x f.1 f.2 (visible_binder o.place x.role (left (is_visible o.place x.role) (bytes_eq (name_of names all x) n && bytes_eq x.block y.block) f.3)) number
+      binds_as f.0 x f.1 f.2 (visible_binder o.place x.role (and_left (is_visible o.place x.role) (bytes_eq (name_of names all x) n && bytes_eq x.block y.block) f.3)) number
       (bound_key names all x y.block n o.place f.3 ∙ sym (reference_key (spelled_all names all) (named names o) o.role u ∙ ap (meaning n) g))
 
   stands_for : (i : ℕ) (o : Occurrence ℕ) → i < length all → ((d : Occurrence ℕ) → get_or all i d ≡ o) → StandsFor o
@@ -227,7 +220,7 @@ module _ (names : List Text) (all : List (Occurrence ℕ)) (follow : FollowMeani
     where
       by : (is_global a ≡ true) ⊎ (is_global a ≡ false) → a.name ≡ b.name
       by (inl g) =
-          let gb : is_global b ≡ true = ap₂ (λ s w. s && bytes_eq w []) kb (sym block) ∙ right (is_binder a.role) (bytes_eq a.block []) g in
+          let gb : is_global b ≡ true = ap₂ (λ s w. s && bytes_eq w []) kb (sym block) ∙ and_right (is_binder a.role) (bytes_eq a.block []) g in
           let each = found_as j b all hj js (λ x. is_global x ≡ true → All (λ y. is_global y ≡ true → name_of names all y ≡ name_of names all x → y.name ≡ x.name) all) read.module_names_apart gb in
           found_as i a all hi is (λ y. is_global y ≡ true → name_of names all y ≡ name_of names all b → y.name ≡ b.name) each g n
       by (inr g) =

@@ -14,7 +14,7 @@ use Rattle.wesl_tree_syntax.specs.declared.expression.Expression.{Expression, ma
 use Rattle.wesl_tree_syntax.specs.declared.expression.FunctionCall.{FunctionCall, map-FunctionCall}
 use Rattle.wesl_tree_syntax.specs.declared.expression.TemplateArg.{TemplateArg, map-TemplateArg}
 use Rattle.wesl_tree_syntax.specs.declared.expression.TypeExpression.{TypeExpression, map-TypeExpression}
-use Rattle.wesl_tree_syntax.specs.declared.expression.Expression.TheOpen.{Expression-F, FunctionCall-F, TemplateArg-F, TypeExpression-F}
+use Rattle.wesl_tree_syntax.specs.declared.expression.Expression.TheOpen.{Expression-F, FunctionCall-F, TemplateArg-F}
 use Rattle.wesl_tree_syntax.specs.declared.expression.Expression.TheFolds.{ind-Expression, ind-FunctionCall, ind-TypeExpression, fold-roll-Expression, fold-roll-FunctionCall, fold-roll-TemplateArg, fold-roll-TypeExpression}
 use Rattle.wesl_tree_syntax.specs.declared.attribute.Attribute.{Attribute}
 use Rattle.wesl_tree_syntax.specs.declared.attribute.Attribute.TheVariants as attr
@@ -51,6 +51,7 @@ use Rattle.wesl_tree_syntax.specs.declared.statement.SwitchClause.{SwitchClause,
 use Rattle.wesl_tree_syntax.specs.declared.statement.Statement.TheOpen.{Statement-F, CompoundStatement-F, ContinuingStatement-F, ElseClause-F, ElseIfClause-F, IfClause-F, SwitchClause-F}
 use Rattle.wesl_tree_syntax.specs.declared.statement.Statement.TheFolds.{ind-CompoundStatement, fold-roll-Statement, fold-roll-CompoundStatement, fold-roll-ContinuingStatement, fold-roll-ElseClause, fold-roll-ElseIfClause, fold-roll-IfClause, fold-roll-SwitchClause}
 use Rattle.wesl_scope_clash.specs.Leaves.{is_leaf, are_leaves, HaveLeaves}
+use Rattle.wesl_scope_open.proofs.Typed.{argument_seen, call_seen, clause_seen, compound_seen, content_seen, continuing_seen, else_if_seen, else_seen, entry_seen, expression_seen, if_seen, statement_seen, type_seen}
 
 abbrev pub IsLeafy : Tree → Type 0
 IsLeafy t = (is_leaf t.label t.children && are_leaves t.children) ≡ true
@@ -85,18 +86,6 @@ literal_leafy (literals.Bool b) = refl
 literal_leafy (literals.Text s) = refl
 
 -- one level of each type
-abbrev expression_seen : Expression-F Expression FunctionCall TemplateArg TypeExpression → Tree
-expression_seen x = expression_step (map-Expression Expression FunctionCall TemplateArg TypeExpression Tree Tree Tree Tree expression_view call_view argument_view type_view x)
-
-abbrev call_seen : FunctionCall-F Expression FunctionCall TemplateArg TypeExpression → Tree
-call_seen x = call_step (map-FunctionCall Expression FunctionCall TemplateArg TypeExpression Tree Tree Tree Tree expression_view call_view argument_view type_view x)
-
-abbrev argument_seen : TemplateArg-F Expression FunctionCall TemplateArg TypeExpression → Tree
-argument_seen x = argument_step (map-TemplateArg Expression FunctionCall TemplateArg TypeExpression Tree Tree Tree Tree expression_view call_view argument_view type_view x)
-
-abbrev type_seen : TypeExpression-F Expression FunctionCall TemplateArg TypeExpression → Tree
-type_seen x = type_step (map-TypeExpression Expression FunctionCall TemplateArg TypeExpression Tree Tree Tree Tree expression_view call_view argument_view type_view x)
-
 expression_each : (y : Expression-F Leafy_expression Leafy_call Leafy_argument Leafy_type) → IsLeafy (expression_seen (map-Expression Leafy_expression Leafy_call Leafy_argument Leafy_type Expression FunctionCall TemplateArg TypeExpression (λ e. e.0) (λ e. e.0) (λ e. e.0) (λ e. e.0) y))
 expression_each (Expression-F.Literal l) = rw (literal_leafy l) refl
 expression_each (Expression-F.Parenthesized e) = rw e.value.node.1 refl
@@ -192,12 +181,6 @@ Leafy_content = (x : ImportContent) × IsLeafy (content_view x)
 abbrev Leafy_entry : Type 0
 Leafy_entry = (x : Import) × IsLeafy (entry_view x)
 
-abbrev content_seen : ImportContent-F ImportContent Import → Tree
-content_seen x = content_step (map-ImportContent ImportContent Import Tree Tree content_view entry_view x)
-
-abbrev entry_seen : Import-F ImportContent Import → Tree
-entry_seen x = entry_step (map-Import ImportContent Import Tree Tree content_view entry_view x)
-
 entries_each : (xs : List Leafy_entry) → are_leaves (forest_of (map (λ t. t) (map entry_view (map (λ (e : Leafy_entry). e.0) xs)))) ≡ true
 entries_each [] = refl
 entries_each (x ∷ xs) = rw (x.1, entries_each xs) refl
@@ -284,27 +267,6 @@ Leafy_if = (x : IfClause) × IsLeafy (if_view x)
 
 abbrev Leafy_clause : Type 0
 Leafy_clause = (x : SwitchClause) × IsLeafy (clause_view x)
-
-abbrev statement_seen : Statement-F Statement CompoundStatement ContinuingStatement ElseClause ElseIfClause IfClause SwitchClause → Tree
-statement_seen x = statement_step (map-Statement Statement CompoundStatement ContinuingStatement ElseClause ElseIfClause IfClause SwitchClause Tree Tree Tree Tree Tree Tree Tree statement_view compound_view continuing_view else_view else_if_view if_view clause_view x)
-
-abbrev compound_seen : CompoundStatement-F Statement CompoundStatement ContinuingStatement ElseClause ElseIfClause IfClause SwitchClause → Tree
-compound_seen x = compound_step (map-CompoundStatement Statement CompoundStatement ContinuingStatement ElseClause ElseIfClause IfClause SwitchClause Tree Tree Tree Tree Tree Tree Tree statement_view compound_view continuing_view else_view else_if_view if_view clause_view x)
-
-abbrev continuing_seen : ContinuingStatement-F Statement CompoundStatement ContinuingStatement ElseClause ElseIfClause IfClause SwitchClause → Tree
-continuing_seen x = continuing_step (map-ContinuingStatement Statement CompoundStatement ContinuingStatement ElseClause ElseIfClause IfClause SwitchClause Tree Tree Tree Tree Tree Tree Tree statement_view compound_view continuing_view else_view else_if_view if_view clause_view x)
-
-abbrev else_seen : ElseClause-F Statement CompoundStatement ContinuingStatement ElseClause ElseIfClause IfClause SwitchClause → Tree
-else_seen x = else_step (map-ElseClause Statement CompoundStatement ContinuingStatement ElseClause ElseIfClause IfClause SwitchClause Tree Tree Tree Tree Tree Tree Tree statement_view compound_view continuing_view else_view else_if_view if_view clause_view x)
-
-abbrev else_if_seen : ElseIfClause-F Statement CompoundStatement ContinuingStatement ElseClause ElseIfClause IfClause SwitchClause → Tree
-else_if_seen x = else_if_step (map-ElseIfClause Statement CompoundStatement ContinuingStatement ElseClause ElseIfClause IfClause SwitchClause Tree Tree Tree Tree Tree Tree Tree statement_view compound_view continuing_view else_view else_if_view if_view clause_view x)
-
-abbrev if_seen : IfClause-F Statement CompoundStatement ContinuingStatement ElseClause ElseIfClause IfClause SwitchClause → Tree
-if_seen x = if_step (map-IfClause Statement CompoundStatement ContinuingStatement ElseClause ElseIfClause IfClause SwitchClause Tree Tree Tree Tree Tree Tree Tree statement_view compound_view continuing_view else_view else_if_view if_view clause_view x)
-
-abbrev clause_seen : SwitchClause-F Statement CompoundStatement ContinuingStatement ElseClause ElseIfClause IfClause SwitchClause → Tree
-clause_seen x = clause_step (map-SwitchClause Statement CompoundStatement ContinuingStatement ElseClause ElseIfClause IfClause SwitchClause Tree Tree Tree Tree Tree Tree Tree statement_view compound_view continuing_view else_view else_if_view if_view clause_view x)
 
 else_ifs_each : (xs : List Leafy_else_if) → are_leaves (forest_of (map (λ t. t) (map else_if_view (map (λ a. a.0) xs)))) ≡ true
 else_ifs_each [] = refl

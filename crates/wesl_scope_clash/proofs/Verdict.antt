@@ -30,7 +30,7 @@ use Rattle.wesl_scope_clash.proofs.Along.{Lasts, lasts, any_there, Fits, Gathers
 use Rattle.wesl_scope_clash.proofs.References.{shape, shape_lasts, reads_of, Beside, Judges, judges, judged_one, outside_one}
 use Rattle.wesl_scope_clash.proofs.Directed.{Directed, all_directed, all_named}
 use Rattle.std.proofs.lemmas.Bool.{and_from, or_left, or_right}
-use Rattle.wesl_scope_clash.proofs.Canonical.{left, right as and_second}
+use Rattle.wesl_scope_open.proofs.Forests.{and_left, and_right}
 
 -- ---- truth
 pub same_truth : (a b : Bool) → (a ≡ true → b ≡ true) → (b ≡ true → a ≡ true) → a ≡ b
@@ -41,7 +41,7 @@ same_truth false false f g = refl
 module _ {X : Type 0} (p : X → Bool) where
   all_each : (xs : List X) → list_all p xs ≡ true → Every (λ x. p x ≡ true) xs
   all_each [] h = tt
-  all_each (x ∷ xs) h = (left (p x) (list_all p xs) h, all_each xs (and_second (p x) (list_all p xs) h))
+  all_each (x ∷ xs) h = (and_left (p x) (list_all p xs) h, all_each xs (and_right (p x) (list_all p xs) h))
 
   each_all : (xs : List X) → Every (λ x. p x ≡ true) xs → list_all p xs ≡ true
   each_all [] h = refl
@@ -70,10 +70,10 @@ each_any p (x ∷ xs) = (
 
 below_each : (n : ℕ) (p : ℕ → Bool) → all_below n p ≡ true → (m : ℕ) → m < n → p m ≡ true
 below_each zero p h m l = absurd (omega (arith, l))
-below_each (suc n) p h m l = at (m == n) (Decides-eqb m n).0 refl (below_each n p (left (all_below n p) (p n) h) m)
+below_each (suc n) p h m l = at (m == n) (Decides-eqb m n).0 refl (below_each n p (and_left (all_below n p) (p n) h) m)
   where
     at : (b : Bool) → (b ≡ true → m ≡ n) → (m == n) ≡ b → (m < n → p m ≡ true) → p m ≡ true
-    at true d f before = ap p (d refl) ∙ and_second (all_below n p) (p n) h
+    at true d f before = ap p (d refl) ∙ and_right (all_below n p) (p n) h
     at false d f before =
         let other : m ≡ n → ⊥ = λ g. let z : true ≡ false = sym ((Decides-eqb m n).1 g) ∙ f in let y : ⊥ = cc in y in
         before (omega (arith, l, other))
@@ -253,8 +253,8 @@ module _ (names : List Text) (alike : List ℕ) (wide : ℕ) (spells : AreAlike 
       where
         to : (done.right && all_below n (outside_at alike done)) ≡ true → all_read_right names all ≡ true
         to h =
-            let inside : list_all judge all ≡ true = sym judges_all.rights ∙ left done.right (all_below n (outside_at alike done)) h in
-            let ends = below_each n (outside_at alike done) (and_second done.right (all_below n (outside_at alike done)) h) in
+            let inside : list_all judge all ≡ true = sym judges_all.rights ∙ and_left done.right (all_below n (outside_at alike done)) h in
+            let ends = below_each n (outside_at alike done) (and_right done.right (all_below n (outside_at alike done)) h) in
             let one : (o : Occurrence ℕ) → ((judge o ≡ true) × ((m : ℕ) → is_outside m o ≡ true → list_any (is_outside m) all ≡ true)) × ((o.name < n) × (reads_right names all o ≡ right_one o)) → reads_right names all o ≡ true =
             λ o k.
             k.1.1
@@ -324,9 +324,9 @@ module _ (names : List Text) (alike : List ℕ) (wide : ℕ) (spells : AreAlike 
           where
             leaves : (o : Occurrence ℕ) (m : ℕ) → shares_number names all o ≡ true → is_global o ≡ is_module_name o.role → declares_so (λ i. i == m) o ≡ true → not (list_any (declares_so (other_than names m)) all) ≡ true
             leaves o m f g e =
-                let same : o.name ≡ m = (Decides-eqb o.name m).0 (and_second (is_module_name o.role) (o.name == m) e) in
+                let same : o.name ≡ m = (Decides-eqb o.name m).0 (and_right (is_module_name o.role) (o.name == m) e) in
                 ap (λ i. not (list_any (declares_so (other_than names i)) all)) (sym same)
-                ∙ (sym (ap (λ x. if x then not (list_any (declares_so (other_than names o.name)) all) else true) (left (is_module_name o.role) (o.name == m) e)) ∙ (sym (one_is o g) ∙ f))
+                ∙ (sym (ap (λ x. if x then not (list_any (declares_so (other_than names o.name)) all) else true) (and_left (is_module_name o.role) (o.name == m) e)) ∙ (sym (one_is o g) ∙ f))
 
             either : (y z : Bool) → z ≡ true → (if y then z else true) ≡ true
             either true z e = e

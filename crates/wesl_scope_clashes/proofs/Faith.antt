@@ -14,7 +14,7 @@ use Rattle.wesl_scope_clash.specs.Test.{has_number}
 use Rattle.wesl_scope_clashes.specs.declared.clash.Reading.{Reading}
 use Rattle.wesl_scope_clashes.specs.declared.clash.Reading.TheVariants.{Unbound}
 use Rattle.wesl_scope_clashes.specs.Clashes.{has_other, read_among, is_rival, misreading, clash_at, clashes}
-use Rattle.wesl_scope_clash.proofs.Canonical.{left}
+use Rattle.wesl_scope_open.proofs.Forests.{and_left}
 
 -- ---- lists of which nothing is found
 all_from : {X : Type 0} (P : X → Type 0) (x : X) (xs : List X) → P x → All P xs → All P (x ∷ xs)
@@ -121,7 +121,7 @@ module _ (names : List Text) (all : List (Occurrence ℕ)) where
   global_reads : (o : Occurrence ℕ) → is_global o ≡ true → misreading names all o ≡ None → find (is_rival names all o) all ≡ None
   global_reads o g e =
       mapped_none _ (find (is_rival names all o) all)
-      (sym (chosen (is_unqualified o.role) (is_global o) _ _ (binds_not_refers o.role (left (is_binder o.role) (bytes_eq o.block []) g)) g) ∙ e)
+      (sym (chosen (is_unqualified o.role) (is_global o) _ _ (binds_not_refers o.role (and_left (is_binder o.role) (bytes_eq o.block []) g)) g) ∙ e)
 
   apart_at : (a b : Occurrence ℕ) → is_global b ≡ true → name_of names all b ≡ name_of names all a → nat_le b.place a.place ≡ true → is_rival names all a b ≡ false → b.name ≡ a.name
   apart_at a b g n l e =

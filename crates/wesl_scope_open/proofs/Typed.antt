@@ -76,16 +76,16 @@ literal_still : (l : LiteralValue) → IsStill (literal_tree l)
 literal_still (literals.Bool b) = refl
 literal_still (literals.Text s) = refl
 
-abbrev expression_seen : Expression-F Expression FunctionCall TemplateArg TypeExpression → Tree
+abbrev pub expression_seen : Expression-F Expression FunctionCall TemplateArg TypeExpression → Tree
 expression_seen x = expression_step (map-Expression Expression FunctionCall TemplateArg TypeExpression Tree Tree Tree Tree expression_view call_view argument_view type_view x)
 
-abbrev call_seen : FunctionCall-F Expression FunctionCall TemplateArg TypeExpression → Tree
+abbrev pub call_seen : FunctionCall-F Expression FunctionCall TemplateArg TypeExpression → Tree
 call_seen x = call_step (map-FunctionCall Expression FunctionCall TemplateArg TypeExpression Tree Tree Tree Tree expression_view call_view argument_view type_view x)
 
-abbrev argument_seen : TemplateArg-F Expression FunctionCall TemplateArg TypeExpression → Tree
+abbrev pub argument_seen : TemplateArg-F Expression FunctionCall TemplateArg TypeExpression → Tree
 argument_seen x = argument_step (map-TemplateArg Expression FunctionCall TemplateArg TypeExpression Tree Tree Tree Tree expression_view call_view argument_view type_view x)
 
-abbrev type_seen : TypeExpression-F Expression FunctionCall TemplateArg TypeExpression → Tree
+abbrev pub type_seen : TypeExpression-F Expression FunctionCall TemplateArg TypeExpression → Tree
 type_seen x = type_step (map-TypeExpression Expression FunctionCall TemplateArg TypeExpression Tree Tree Tree Tree expression_view call_view argument_view type_view x)
 
 expression_each : (y : Expression-F Still_expression Still_call Still_argument Still_type)
@@ -267,43 +267,43 @@ OfIfClause = (x : IfClause) × IsLively (if_view x)
 abbrev OfSwitchClause : Type 0
 OfSwitchClause = (x : SwitchClause) × IsLively (clause_view x)
 
-abbrev statement_seen : Statement-F Statement CompoundStatement ContinuingStatement ElseClause ElseIfClause IfClause SwitchClause → Tree
+abbrev pub statement_seen : Statement-F Statement CompoundStatement ContinuingStatement ElseClause ElseIfClause IfClause SwitchClause → Tree
 statement_seen x = statement_step (map-Statement Statement CompoundStatement ContinuingStatement ElseClause ElseIfClause IfClause SwitchClause Tree Tree Tree Tree Tree Tree Tree statement_view compound_view continuing_view else_view else_if_view if_view clause_view x)
 
 abbrev statement_open : Statement-F OfStatement OfCompoundStatement OfContinuingStatement OfElseClause OfElseIfClause OfIfClause OfSwitchClause → Statement-F Statement CompoundStatement ContinuingStatement ElseClause ElseIfClause IfClause SwitchClause
 statement_open y = map-Statement OfStatement OfCompoundStatement OfContinuingStatement OfElseClause OfElseIfClause OfIfClause OfSwitchClause Statement CompoundStatement ContinuingStatement ElseClause ElseIfClause IfClause SwitchClause (λ e. e.0) (λ e. e.0) (λ e. e.0) (λ e. e.0) (λ e. e.0) (λ e. e.0) (λ e. e.0) y
 
-abbrev compound_seen : CompoundStatement-F Statement CompoundStatement ContinuingStatement ElseClause ElseIfClause IfClause SwitchClause → Tree
+abbrev pub compound_seen : CompoundStatement-F Statement CompoundStatement ContinuingStatement ElseClause ElseIfClause IfClause SwitchClause → Tree
 compound_seen x = compound_step (map-CompoundStatement Statement CompoundStatement ContinuingStatement ElseClause ElseIfClause IfClause SwitchClause Tree Tree Tree Tree Tree Tree Tree statement_view compound_view continuing_view else_view else_if_view if_view clause_view x)
 
 abbrev compound_open : CompoundStatement-F OfStatement OfCompoundStatement OfContinuingStatement OfElseClause OfElseIfClause OfIfClause OfSwitchClause → CompoundStatement-F Statement CompoundStatement ContinuingStatement ElseClause ElseIfClause IfClause SwitchClause
 compound_open y = map-CompoundStatement OfStatement OfCompoundStatement OfContinuingStatement OfElseClause OfElseIfClause OfIfClause OfSwitchClause Statement CompoundStatement ContinuingStatement ElseClause ElseIfClause IfClause SwitchClause (λ e. e.0) (λ e. e.0) (λ e. e.0) (λ e. e.0) (λ e. e.0) (λ e. e.0) (λ e. e.0) y
 
-abbrev continuing_seen : ContinuingStatement-F Statement CompoundStatement ContinuingStatement ElseClause ElseIfClause IfClause SwitchClause → Tree
+abbrev pub continuing_seen : ContinuingStatement-F Statement CompoundStatement ContinuingStatement ElseClause ElseIfClause IfClause SwitchClause → Tree
 continuing_seen x = continuing_step (map-ContinuingStatement Statement CompoundStatement ContinuingStatement ElseClause ElseIfClause IfClause SwitchClause Tree Tree Tree Tree Tree Tree Tree statement_view compound_view continuing_view else_view else_if_view if_view clause_view x)
 
 abbrev continuing_open : ContinuingStatement-F OfStatement OfCompoundStatement OfContinuingStatement OfElseClause OfElseIfClause OfIfClause OfSwitchClause → ContinuingStatement-F Statement CompoundStatement ContinuingStatement ElseClause ElseIfClause IfClause SwitchClause
 continuing_open y = map-ContinuingStatement OfStatement OfCompoundStatement OfContinuingStatement OfElseClause OfElseIfClause OfIfClause OfSwitchClause Statement CompoundStatement ContinuingStatement ElseClause ElseIfClause IfClause SwitchClause (λ e. e.0) (λ e. e.0) (λ e. e.0) (λ e. e.0) (λ e. e.0) (λ e. e.0) (λ e. e.0) y
 
-abbrev else_seen : ElseClause-F Statement CompoundStatement ContinuingStatement ElseClause ElseIfClause IfClause SwitchClause → Tree
+abbrev pub else_seen : ElseClause-F Statement CompoundStatement ContinuingStatement ElseClause ElseIfClause IfClause SwitchClause → Tree
 else_seen x = else_step (map-ElseClause Statement CompoundStatement ContinuingStatement ElseClause ElseIfClause IfClause SwitchClause Tree Tree Tree Tree Tree Tree Tree statement_view compound_view continuing_view else_view else_if_view if_view clause_view x)
 
 abbrev else_open : ElseClause-F OfStatement OfCompoundStatement OfContinuingStatement OfElseClause OfElseIfClause OfIfClause OfSwitchClause → ElseClause-F Statement CompoundStatement ContinuingStatement ElseClause ElseIfClause IfClause SwitchClause
 else_open y = map-ElseClause OfStatement OfCompoundStatement OfContinuingStatement OfElseClause OfElseIfClause OfIfClause OfSwitchClause Statement CompoundStatement ContinuingStatement ElseClause ElseIfClause IfClause SwitchClause (λ e. e.0) (λ e. e.0) (λ e. e.0) (λ e. e.0) (λ e. e.0) (λ e. e.0) (λ e. e.0) y
 
-abbrev else_if_seen : ElseIfClause-F Statement CompoundStatement ContinuingStatement ElseClause ElseIfClause IfClause SwitchClause → Tree
+abbrev pub else_if_seen : ElseIfClause-F Statement CompoundStatement ContinuingStatement ElseClause ElseIfClause IfClause SwitchClause → Tree
 else_if_seen x = else_if_step (map-ElseIfClause Statement CompoundStatement ContinuingStatement ElseClause ElseIfClause IfClause SwitchClause Tree Tree Tree Tree Tree Tree Tree statement_view compound_view continuing_view else_view else_if_view if_view clause_view x)
 
 abbrev else_if_open : ElseIfClause-F OfStatement OfCompoundStatement OfContinuingStatement OfElseClause OfElseIfClause OfIfClause OfSwitchClause → ElseIfClause-F Statement CompoundStatement ContinuingStatement ElseClause ElseIfClause IfClause SwitchClause
 else_if_open y = map-ElseIfClause OfStatement OfCompoundStatement OfContinuingStatement OfElseClause OfElseIfClause OfIfClause OfSwitchClause Statement CompoundStatement ContinuingStatement ElseClause ElseIfClause IfClause SwitchClause (λ e. e.0) (λ e. e.0) (λ e. e.0) (λ e. e.0) (λ e. e.0) (λ e. e.0) (λ e. e.0) y
 
-abbrev if_seen : IfClause-F Statement CompoundStatement ContinuingStatement ElseClause ElseIfClause IfClause SwitchClause → Tree
+abbrev pub if_seen : IfClause-F Statement CompoundStatement ContinuingStatement ElseClause ElseIfClause IfClause SwitchClause → Tree
 if_seen x = if_step (map-IfClause Statement CompoundStatement ContinuingStatement ElseClause ElseIfClause IfClause SwitchClause Tree Tree Tree Tree Tree Tree Tree statement_view compound_view continuing_view else_view else_if_view if_view clause_view x)
 
 abbrev if_open : IfClause-F OfStatement OfCompoundStatement OfContinuingStatement OfElseClause OfElseIfClause OfIfClause OfSwitchClause → IfClause-F Statement CompoundStatement ContinuingStatement ElseClause ElseIfClause IfClause SwitchClause
 if_open y = map-IfClause OfStatement OfCompoundStatement OfContinuingStatement OfElseClause OfElseIfClause OfIfClause OfSwitchClause Statement CompoundStatement ContinuingStatement ElseClause ElseIfClause IfClause SwitchClause (λ e. e.0) (λ e. e.0) (λ e. e.0) (λ e. e.0) (λ e. e.0) (λ e. e.0) (λ e. e.0) y
 
-abbrev clause_seen : SwitchClause-F Statement CompoundStatement ContinuingStatement ElseClause ElseIfClause IfClause SwitchClause → Tree
+abbrev pub clause_seen : SwitchClause-F Statement CompoundStatement ContinuingStatement ElseClause ElseIfClause IfClause SwitchClause → Tree
 clause_seen x = clause_step (map-SwitchClause Statement CompoundStatement ContinuingStatement ElseClause ElseIfClause IfClause SwitchClause Tree Tree Tree Tree Tree Tree Tree statement_view compound_view continuing_view else_view else_if_view if_view clause_view x)
 
 abbrev clause_open : SwitchClause-F OfStatement OfCompoundStatement OfContinuingStatement OfElseClause OfElseIfClause OfIfClause OfSwitchClause → SwitchClause-F Statement CompoundStatement ContinuingStatement ElseClause ElseIfClause IfClause SwitchClause
@@ -459,13 +459,13 @@ OfContent = (c : ImportContent) × IsAiry (content_view c)
 abbrev OfEntry : Type 0
 OfEntry = (i : Import) × IsAiry (entry_view i)
 
-abbrev content_seen : ImportContent-F ImportContent Import → Tree
+abbrev pub content_seen : ImportContent-F ImportContent Import → Tree
 content_seen x = content_step (map-ImportContent ImportContent Import Tree Tree content_view entry_view x)
 
 abbrev content_open : ImportContent-F OfContent OfEntry → ImportContent-F ImportContent Import
 content_open y = map-ImportContent OfContent OfEntry ImportContent Import (λ e. e.0) (λ e. e.0) y
 
-abbrev entry_seen : Import-F ImportContent Import → Tree
+abbrev pub entry_seen : Import-F ImportContent Import → Tree
 entry_seen x = entry_step (map-Import ImportContent Import Tree Tree content_view entry_view x)
 
 abbrev entry_open : Import-F OfContent OfEntry → Import-F ImportContent Import

@@ -27,7 +27,7 @@ contains_here x xs = (0, omega arith, refl)
 pub contains_later : {A : Type 0} (x m : A) (xs : List A) → Contains xs m → Contains (x ∷ xs) m
 contains_later x m xs c = (suc c.0, omega (arith, c.1), c.2)
 
-contains_none : {A : Type 0} (m : A) → Contains [] m → ⊥
+pub contains_none : {A : Type 0} (m : A) → Contains [] m → ⊥
 contains_none m c = let l : c.0 < 0 = c.1 in omega arith
 
 pub contains_cases : {A : Type 0} (x m : A) (xs : List A) → Contains (x ∷ xs) m → (x ≡ m) ⊎ Contains xs m

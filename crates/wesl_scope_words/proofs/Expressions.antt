@@ -12,9 +12,10 @@ use Rattle.wesl_tree_syntax.specs.declared.expression.Expression.{Expression, ma
 use Rattle.wesl_tree_syntax.specs.declared.expression.FunctionCall.{FunctionCall, map-FunctionCall}
 use Rattle.wesl_tree_syntax.specs.declared.expression.TemplateArg.{TemplateArg, map-TemplateArg}
 use Rattle.wesl_tree_syntax.specs.declared.expression.TypeExpression.{TypeExpression, map-TypeExpression}
-use Rattle.wesl_tree_syntax.specs.declared.expression.Expression.TheOpen.{Expression-F, FunctionCall-F, TemplateArg-F, TypeExpression-F}
+use Rattle.wesl_tree_syntax.specs.declared.expression.Expression.TheOpen.{Expression-F, FunctionCall-F, TemplateArg-F}
 use Rattle.wesl_tree_syntax.specs.declared.expression.Expression.TheFolds.{ind-Expression, ind-TypeExpression, ind-FunctionCall, fold-roll-Expression, fold-roll-FunctionCall, fold-roll-TemplateArg, fold-roll-TypeExpression}
 use Rattle.wesl_scope_words.proofs.Quiet.{is_quiet, IsQuiet}
+use Rattle.wesl_scope_open.proofs.Typed.{argument_seen, call_seen, expression_seen, type_seen}
 
 abbrev Quiet_expression : Type 0
 Quiet_expression = (e : Expression) × IsQuiet (expression_view e)
@@ -33,18 +34,6 @@ literal_quiet (literals.Bool b) = refl
 literal_quiet (literals.Text s) = refl
 
 -- one level of each type, where what is in it is plain
-abbrev expression_seen : Expression-F Expression FunctionCall TemplateArg TypeExpression → Tree
-expression_seen x = expression_step (map-Expression Expression FunctionCall TemplateArg TypeExpression Tree Tree Tree Tree expression_view call_view argument_view type_view x)
-
-abbrev call_seen : FunctionCall-F Expression FunctionCall TemplateArg TypeExpression → Tree
-call_seen x = call_step (map-FunctionCall Expression FunctionCall TemplateArg TypeExpression Tree Tree Tree Tree expression_view call_view argument_view type_view x)
-
-abbrev argument_seen : TemplateArg-F Expression FunctionCall TemplateArg TypeExpression → Tree
-argument_seen x = argument_step (map-TemplateArg Expression FunctionCall TemplateArg TypeExpression Tree Tree Tree Tree expression_view call_view argument_view type_view x)
-
-abbrev type_seen : TypeExpression-F Expression FunctionCall TemplateArg TypeExpression → Tree
-type_seen x = type_step (map-TypeExpression Expression FunctionCall TemplateArg TypeExpression Tree Tree Tree Tree expression_view call_view argument_view type_view x)
-
 expression_each : (y : Expression-F Quiet_expression Quiet_call Quiet_argument Quiet_type)
     → IsQuiet (expression_seen (map-Expression Quiet_expression Quiet_call Quiet_argument Quiet_type Expression FunctionCall TemplateArg TypeExpression (λ e. e.0) (λ e. e.0) (λ e. e.0) (λ e. e.0) y))
 expression_each (Expression-F.Literal l) = rw (literal_quiet l) refl

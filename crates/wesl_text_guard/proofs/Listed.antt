@@ -9,13 +9,9 @@ use Rattle.wesl_tree_syntax.specs.View.{listed}
 use Rattle.wesl_text_guard.specs.Guards.{Guarded, as_it_is, as_item}
 use Rattle.wesl_text_guard.specs.Parentheses.{each_fits, fitted, stands_listed, with_parentheses, tree_with_parentheses}
 use Rattle.wesl_text_guard.specs.declared.guard.Guard.{Guard}
-use Rattle.wesl_tree_copies.proofs.Listed.{drop_past}
+use Rattle.wesl_tree_copies.proofs.Listed.{drop_past, joined}
 
 -- trees, and a forest after them
-abbrev pub joined : List Tree → Forest → Forest
-joined [] f = f
-joined (t ∷ ts) f = before t (joined ts f)
-
 joined_more : (ts : List Tree) (t : Tree) (f : Forest) → joined (ts ++ t ∷ []) f ≡ joined ts (before t f)
 joined_more [] t f = refl
 joined_more (u ∷ ts) t f = ap (before u) (joined_more ts t f)

@@ -23,6 +23,7 @@ use Rattle.wesl_text_read.specs.Parts.{may_at}
 use Rattle.wesl_text_read.proofs.Leading.{next, seen, stay, under}
 use Rattle.wesl_text_read.proofs.Rows.{row_ends, row_optional}
 use Rattle.wesl_text_read_simple.specs.Words.{kind_at}
+use Rattle.wesl_text_read.proofs.Attributes.{inside}
 
 -- the memory of a variable in its template list, and an access mode behind a comma
 abbrev pub memory_row : Row
@@ -68,9 +69,6 @@ in_kind n = ranked (at_level n any) 2
 abbrev in_space : ℕ → Sort → TreeReader
 in_space n = ranked (at_level n any) 1
 
-abbrev in_access : ℕ → Sort → TreeReader
-in_access n = ranked (at_level n any) 0
-
 module _ {s m : Reader} (skip : Skips (λ ts. Some (behind_first ts)) s m) where
   -- the tokens are one word and those that are left
   behind_word : (t : Text) → word_first (ahead s) ≡ Some t → (f : List Token → Read (TreeOf Text)) → Leads (λ _. f (ahead s)) (λ _. f (name t ∷ ahead m)) s m
@@ -93,7 +91,7 @@ module _ {s m : Reader} (skip : Skips (λ ts. Some (behind_first ts)) s m) where
 
   pub access_there : (x : AccessMode) → word_first (ahead s) ≡ Some (access_word x) → Reads (inner s.levels an_access) (tree_leaf (access x)) s m
   access_there x h =
-      next (behind_word (access_word x) h (inner s.levels an_access)) (seen (λ ns. access-read (in_access s.levels) x (ahead m)) (λ ns. refl) stay)
+      next (behind_word (access_word x) h (inner s.levels an_access)) (seen (λ ns. access-read (inside s.levels) x (ahead m)) (λ ns. refl) stay)
 
 -- the memory of a variable behind its word
 pub var_read : {s e : Reader} (t : Tree) → Reads (may_at s.levels memory_row) t s e → Reads (kind_at s.levels (codes "var")) (branch var_kind (t ∷ [])) s e

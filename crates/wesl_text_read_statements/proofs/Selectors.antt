@@ -10,10 +10,10 @@ use Rattle.wesl_tree_syntax.specs.declared.statement.CaseSelector.TheVariants as
 use Rattle.wesl_text_tokens.specs.Tokens.{Token, name}
 use Rattle.wesl_text_form.specs.Slots.{behind_token}
 use Rattle.wesl_text_form.specs.Spelling.{Forest, is_end}
-use Rattle.wesl_text_form.specs.Productions.{Sort, a_selector, an_expression}
+use Rattle.wesl_text_form.specs.Productions.{a_selector, an_expression}
 use Rattle.wesl_text_reading.specs.FirstTokens.{begins_word, behind_first}
 use Rattle.wesl_text_reading.specs.Leaves.{Read, after, where_so}
-use Rattle.wesl_text_reading.specs.Reading.{Reader as TreeReader, and_others, any, at_level, begins_child, lone_default, node_of, ranked, read_node, read_part, read_row, separate_of}
+use Rattle.wesl_text_reading.specs.Reading.{and_others, any, at_level, begins_child, lone_default, node_of, read_node, read_part, read_row, separate_of}
 use Rattle.wesl_text_read.specs.declared.reader.Reader.{Reader}
 use Rattle.wesl_text_read.specs.Leads.{Keeps, Leads, Reads, Refuses, Skips, ahead}
 use Rattle.wesl_text_read.specs.Levels.{inner}
@@ -21,14 +21,12 @@ use Rattle.wesl_text_read.specs.Parts.{commas_at}
 use Rattle.wesl_text_read.proofs.First.{token-behind}
 use Rattle.wesl_text_read.proofs.Leading.{keeping, next, nothing_there, once_clear, seen, under}
 use Rattle.wesl_text_read_statements.specs.Statements.{selectors_at, some_selectors_at}
+use Rattle.wesl_text_read.proofs.Attributes.{inside}
 
 -- ---- one selector
 
-abbrev within : ℕ → Sort → TreeReader
-within n = ranked (at_level n any) 0
-
 abbrev selector_by : ℕ → List Token → Bool → Read (TreeOf Text)
-selector_by n ts b = read_node (within n) (read_row (within n) (read_part (within n))) a_selector (Some (kind (if b then default_case else expression_case))) ts
+selector_by n ts b = read_node (inside n) (read_row (inside n) (read_part (inside n))) a_selector (Some (kind (if b then default_case else expression_case))) ts
 
 default-read : (n : ℕ) (ts : List Token) → begins_word (codes "default") ts ≡ true → inner n a_selector ts ≡ Some (branch default_case [], behind_first ts)
 default-read n ts h =

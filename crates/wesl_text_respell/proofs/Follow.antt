@@ -15,8 +15,9 @@ use Rattle.wesl_text_respell.specs.Respelled.{named_by, qualified_by, IsNamed, M
 use Rattle.wesl_text_respell.proofs.Kept.{end_kept, kind_kept, class_kept, leads_kept, open_kept, lone_kept, fits_kept, stands_kept, type_kept}
 use Rattle.wesl_text_respell.proofs.Related.{none, other, like_self, Follows, follows_self, follows_joined, follows_either}
 use Rattle.wesl_text_respell.proofs.Leaves.{leaf_kept, leaf_renamed, Begin, path_gone, ident_begins}
-use Rattle.wesl_text_respell.proofs.Trees.{rows_fair, TreesFollow, none_follow, place, target_is, tree_follows}
+use Rattle.wesl_text_respell.proofs.Trees.{rows_fair, TreesFollow, none_follow, target_is, tree_follows}
 use Rattle.wesl_text_reading.proofs.ForParts.{no_slots}
+use Rattle.wesl_text_reading.proofs.RowReads.{target_slots}
 
 -- ---- nodes
 
@@ -153,7 +154,7 @@ is_target c = is_tight (class_of (label_at 0 c)) && leads_to_place c
 abbrev expression : Label → Forest → Slots
 expression l c = first_slots l c (spells c) an_expression
 
-place_follows : {c d : Forest} (l : Label) → IsRespelled c d → Follows (expression l c) (expression l d) → Follows (place l c) (place l d)
+place_follows : {c d : Forest} (l : Label) → IsRespelled c d → Follows (expression l c) (expression l d) → Follows (target_slots l c) (target_slots l d)
 place_follows {c = c} {d = d} l r p = by (is_wildcard l c) refl (is_wildcard l d) refl where
   -- `_` becomes a name
   becomes : Wild l c → is_wildcard l d ≡ false → WildBecomes d → Follows (Some (named (codes "_") ∷ [])) (if is_target d then expression l d else None)
@@ -195,7 +196,7 @@ no_row s r x = refl
 renamed_follows : {c d o p : Forest} (r : Role) (x y : Text) → MayBecome x y → IsRespelled c d → IsRespelled o p → TreesFollow c d → TreesFollow o p → TreesFollow (tree (ident r x) c o) (tree (ident r y) d p)
 renamed_follows {c = c} {d = d} {o = o} {p = p} r x y h k q below later =
     tree_follows (ident r x) (ident r y) c d o p (λ s. nowhere s (row_of s (ident r x)) (no_row s r x)) (λ k. refl) (λ f. leaf_renamed f r x y h q) (λ k e t. below) (end_kept k) (lone_kept k)
-    (none_follows (is_target c) None (place (ident r y) d) refl) (kind_kept absent 0 q) later q where
+    (none_follows (is_target c) None (target_slots (ident r y) d) refl) (kind_kept absent 0 q) later q where
       nowhere : (s : Sort) (o : Option Row) → o ≡ None
           → Follows (option_and_then (λ z. if fits (ident r x) c && stands_as s (ident r x) c then (spells c).row z else None) o) (first_slots (ident r y) d (spells d) s)
       nowhere s None e = tt
@@ -216,7 +217,7 @@ abbrev node : Label
 node = at expression_node 0 0
 
 -- a name becomes `_`
-discarded : (x : Text) → Follows (place node (named_by x)) (place node wild)
+discarded : (x : Text) → Follows (target_slots node (named_by x)) (target_slots node wild)
 discarded x = by (bytes_eq x (codes "_")) (is_name x) where
   by : (z n : Bool) → Follows (if z then Some (named (codes "_") ∷ []) else word_slots n x) (Some (named (codes "_") ∷ []))
   by true n = like_self (named (codes "_") ∷ [])
@@ -224,7 +225,7 @@ discarded x = by (bytes_eq x (codes "_")) (is_name x) where
   by false false = tt
 
 -- and so does one with a path
-discarded_path : (q : Path) (x : Text) → Follows (place node (qualified_by q x)) (place node wild)
+discarded_path : (q : Path) (x : Text) → Follows (target_slots node (qualified_by q x)) (target_slots node wild)
 discarded_path q x =
     follows_joined (followed (followed (followed (provided (is_path false q) (origin_slots false q.origin ++ stepped q.components)) (Some [])) (followed (provided (is_name x) (named x ∷ [])) (Some []))) (Some [])) (Some (named (codes "_") ∷ [])) (Some []) (Some [])
     (follows_joined (followed (followed (provided (is_path false q) (origin_slots false q.origin ++ stepped q.components)) (Some [])) (followed (provided (is_name x) (named x ∷ [])) (Some []))) (Some (named (codes "_") ∷ [])) (Some []) (Some [])
@@ -237,9 +238,9 @@ discarded_path q x =
       by true = other x (codes "_") none
       by false = tt
 
-discarded_target : (t : Forest) → IsNamed t → Follows (place node t) (place node wild)
-discarded_target t (inl x) = subst (λ z. Follows (place node z) (place node wild)) (turned x.1) (discarded x.0)
-discarded_target t (inr x) = subst (λ z. Follows (place node z) (place node wild)) (turned x.2) (discarded_path x.0 x.1)
+discarded_target : (t : Forest) → IsNamed t → Follows (target_slots node t) (target_slots node wild)
+discarded_target t (inl x) = subst (λ z. Follows (target_slots node z) (target_slots node wild)) (turned x.1) (discarded x.0)
+discarded_target t (inr x) = subst (λ z. Follows (target_slots node z) (target_slots node wild)) (turned x.2) (discarded_path x.0 x.1)
 
 no_parentheses : (t v : Forest) → IsNamed t → begins_enclosed (tree node t v) ≡ false
 no_parentheses t v (inl x) = ap (λ z. begins_enclosed (tree node z v)) x.1
@@ -262,7 +263,7 @@ module _ {a b v w : Forest} (t : Forest) (n : IsNamed t) (x : IsRespelled a b) (
   discards_row =
       follows_joined ((spells a).all an_attribute) ((spells b).all an_attribute) ((spells (tree node t v)).row (target behind_target)) ((spells (tree node wild w)).row (target behind_target)) (attributes_follow.all an_attribute)
       (subst (λ z. Follows z ((spells (tree node wild w)).row (target behind_target))) (turned (target_is node t v behind_target))
-      (follows_joined (place node t) (place node wild) ((spells v).row behind_target) ((spells w).row behind_target) (discarded_target t n) (value.row behind_target refl)))
+      (follows_joined (target_slots node t) (target_slots node wild) ((spells v).row behind_target) ((spells w).row behind_target) (discarded_target t n) (value.row behind_target refl)))
 
   discards_first : (s : Sort) → Follows (first_slots (assignment assignment_operator.Equal) old (spells old) s) (first_slots (assignment assignment_operator.Equal) new (spells new) s)
   discards_first a_bare_statement =

@@ -16,6 +16,7 @@ use Rattle.wesl_text_respell.proofs.Ended.{nodes_are_ended}
 use Rattle.wesl_text_respell.proofs.Related.{none, like_self, Follows, follows_self, follows_joined, follows_trailing, follows_comma, follows_cut, follows_either}
 use Rattle.std.proofs.lemmas.Bool.{and_parts}
 use Rattle.wesl_text_reading.proofs.Classes.{denied}
+use Rattle.wesl_text_reading.proofs.RowReads.{target_slots}
 
 -- ---- which rows
 
@@ -78,15 +79,12 @@ none_follow = record { row = λ r h. follows_self (row_of_none r); first = λ s.
 
 -- ---- the target of an assignment
 
-abbrev pub place : Label → Forest → Slots
-place l c = if is_wildcard l c then Some (named (codes "_") ∷ []) else if is_tight (class_of (label_at 0 c)) && leads_to_place c then first_slots l c (spells c) an_expression else None
-
 place_first : (w t : Bool) (a b x : Slots) → (if w then followed a x else if t then followed b x else None) ≡ followed (if w then a else if t then b else None) x
 place_first true t a b x = refl
 place_first false true a b x = refl
 place_first false false a b x = refl
 
-pub target_is : (l : Label) (c o : Forest) (row : Row) → row_slots l c o (spells c) (spells o) (target row) ≡ followed (place l c) ((spells o).row row)
+pub target_is : (l : Label) (c o : Forest) (row : Row) → row_slots l c o (spells c) (spells o) (target row) ≡ followed (target_slots l c) ((spells o).row row)
 target_is l c o row = place_first (is_wildcard l c) (is_tight (class_of (label_at 0 c)) && leads_to_place c) (Some (named (codes "_") ∷ [])) (first_slots l c (spells c) an_expression) ((spells o).row row)
 
 -- ---- one tree, by what is known of its label
@@ -94,7 +92,7 @@ target_is l c o row = place_first (is_wildcard l c) (is_tight (class_of (label_a
 module _ (l m : Label) (c d o p : Forest) (firsts : (s : Sort) → Follows (first_slots l c (spells c) s) (first_slots m d (spells d) s))
     (kinds : (k : Kind) → is_kind k (Some m) ≡ is_kind k (Some l)) (leaves : (f : Leaf) → Follows (leaf_slots f l o) (leaf_slots f m p))
     (inner : (k : Kind) → is_kind k (Some l) ≡ true → same_kind k type_expression ≡ false → TreesFollow c d)
-    (ended : is_end d ≡ is_end c) (lone : is_lone_default d ≡ is_lone_default c) (targets : Follows (place l c) (place m d)) (next : is_absent_at 0 p ≡ is_absent_at 0 o) (later : TreesFollow o p) where
+    (ended : is_end d ≡ is_end c) (lone : is_lone_default d ≡ is_lone_default c) (targets : Follows (target_slots l c) (target_slots m d)) (next : is_absent_at 0 p ≡ is_absent_at 0 o) (later : TreesFollow o p) where
   tree_row : (r : Row) → is_fair r ≡ true → Follows (row_slots l c o (spells c) (spells o) r) (row_slots m d p (spells d) (spells p) r)
   tree_row nothing h = tt
   tree_row (sym s row) h = follows_joined (Some (signed s ∷ [])) (Some (signed s ∷ [])) (row_slots l c o (spells c) (spells o) row) (row_slots m d p (spells d) (spells p) row) (like_self (signed s ∷ [])) (tree_row row h)
@@ -130,8 +128,8 @@ module _ (l m : Label) (c d o p : Forest) (firsts : (s : Sort) → Follows (firs
       (λ e. follows_joined ((spells c).row ins) ((spells d).row ins) ((spells o).row row) ((spells p).row row) ((inner k e (denied (same_kind k type_expression) x.0)).row ins y.0) (later.row row y.1)) (λ e. tt)
   tree_row (target row) h =
       subst (λ z. Follows z (row_slots m d p (spells d) (spells p) (target row))) (turned (target_is l c o row))
-      (subst (λ z. Follows (followed (place l c) ((spells o).row row)) z) (turned (target_is m d p row))
-      (follows_joined (place l c) (place m d) ((spells o).row row) ((spells p).row row) targets (later.row row h)))
+      (subst (λ z. Follows (followed (target_slots l c) ((spells o).row row)) z) (turned (target_is m d p row))
+      (follows_joined (target_slots l c) (target_slots m d) ((spells o).row row) ((spells p).row row) targets (later.row row h)))
   tree_row (selectors row) h =
       follows_either (not (is_kind list (Some l))) (not (is_kind list (Some m))) None
       (if is_lone_default c then followed (Some (alone ∷ [])) ((spells o).row row) else followed (Some (named (codes "case") ∷ [])) (followed (option_map trailing ((spells c).separate a_selector)) ((spells o).row row)))

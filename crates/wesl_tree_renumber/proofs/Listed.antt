@@ -9,13 +9,9 @@ use Rattle.wesl_tree_syntax.specs.View.{listed}
 use Rattle.wesl_tree_copies.specs.Renumbered.{renumbered, after, renumbered_tree, after_tree}
 use Rattle.wesl_tree_renumber.specs.Renumbers.{Renumbered}
 use Rattle.wesl_tree_renumber.specs.declared.renumbering.Renumbering.{Renumbering}
-use Rattle.wesl_tree_copies.proofs.Listed.{drop_past}
+use Rattle.wesl_tree_copies.proofs.Listed.{drop_past, joined}
 
 -- trees, and a forest after them
-abbrev pub joined : List Tree → Forest → Forest
-joined [] f = f
-joined (t ∷ ts) f = before t (joined ts f)
-
 joined_more : (ts : List Tree) (t : Tree) (f : Forest) → joined (ts ++ t ∷ []) f ≡ joined ts (before t f)
 joined_more [] t f = refl
 joined_more (u ∷ ts) t f = ap (before u) (joined_more ts t f)

@@ -1,6 +1,6 @@
 -- What a fault tells is so in the module.
 use Rattle.std.proofs.Common.{◌≡◌, ℕ, Bool, true, false, cond, ◌&&◌, List, [], ◌∷◌, map, refl, sym, ap, ◌∙◌}
-use Rattle.std.specs.Prelude.{Option, Some, None, IfNone, slice_get}
+use Rattle.std.specs.Prelude.{Option, Some, None, slice_get}
 use Rattle.std.specs.Option.{option_map}
 use Rattle.std.specs.List.{filter, find}
 use Rattle.wesl_tree_names.specs.Path.{Text}
@@ -52,6 +52,3 @@ module _ (u : UnitView) (b : BuiltinNames) (names : List Text) (same : names ≡
   }
 
 -- what holds where nothing was found
-pub none_of : {X : Type 0} (r : Option X) (P : Type 0) → r ≡ None → IfNone r P → P
-none_of None P e h = h
-none_of (Some x) P e h = cc

@@ -9,7 +9,7 @@ use Rattle.wesl_tree_syntax.specs.Tree.{Tree, end, trees}
 use Rattle.wesl_tree_syntax.specs.Unit.{UnitView}
 use Rattle.wesl_scope_strip.specs.Declarations.{count}
 use Rattle.wesl_validate_builtins.specs.Builtins.{BuiltinNames}
-use Rattle.wesl_validate_rules.proofs.Finding.{contains_none, from_mapped, to_mapped}
+use Rattle.wesl_validate_rules.proofs.Finding.{from_mapped, to_mapped}
 use Rattle.wesl_validate_rules.specs.Calls.{CallOf, is_plain_alias, calls_in}
 use Rattle.wesl_validate_rules.specs.Faults.{name_of, Counts, IsMisfit}
 use Rattle.wesl_validate_rules.specs.Valid.{calls_of, AliasesTo, IsEnd, Fits, IsValidWgsl}
@@ -23,7 +23,7 @@ use Rattle.wesl_validate_faults.specs.Laws.{IsCauseTold, IsMisfitTold, ListsWhat
 use Rattle.wesl_validate_faults.specs.Listed.{each_once}
 use Rattle.wesl_validate_faults.proofs.Collecting.{of_once, once_apart, to_once}
 use Rattle.wesl_validate_faults.proofs.Standing.{lists_what_stands, lists_each_cause, lists_each_once, is_one_list, none_is_valid, found_refutes, empty}
-use Rattle.wesl_scope_strip.proofs.Keeping.{contains_cases, contains_here, contains_later}
+use Rattle.wesl_scope_strip.proofs.Keeping.{contains_cases, contains_here, contains_later, contains_none}
 
 -- the least of numbers is one
 one_least : (e d : ℕ) → (e < d → ⊥) → (d < e → ⊥) → e ≡ d

@@ -9,12 +9,11 @@ use denote.Ref.{Bor}
 use Rattle.wesl_tree_base.specs.Borrowed.{texts}
 use Rattle.wesl_tree_names.specs.Path.{Text}
 use Rattle.wesl_tree_interner.specs.Interned.{with_text}
-use Rattle.wesl_validate_rules.proofs.Finding.{contains_none}
 use Rattle.wesl_validate_rules.proofs.Twice.{among}
 use Rattle.wesl_validate_rules.specs.Twice.{StandsTwice}
 use Rattle.wesl_validate_faults.specs.Findings.{Finding, duplicate}
 use Rattle.wesl_validate_faults.specs.Listed.{repeated_after}
-use Rattle.wesl_scope_strip.proofs.Keeping.{contains_cases, contains_here, contains_later}
+use Rattle.wesl_scope_strip.proofs.Keeping.{contains_cases, contains_here, contains_later, contains_none}
 
 is_there : (xs : List Text) (n : Text) → Contains xs n → list_any (bytes_eq n) xs ≡ true
 is_there [] n c = absurd (contains_none n c)

@@ -10,7 +10,7 @@ use Rattle.wesl_scope_strip.specs.Declarations.{all, lies_in}
 use Rattle.wesl_validate_builtins.specs.Builtins.{BuiltinNames}
 use Rattle.wesl_validate_free.proofs.Once.{of_passing, to_passing}
 use Rattle.wesl_validate_rules.proofs.Faults.{faultless}
-use Rattle.wesl_validate_rules.proofs.Finding.{contains_none, from_mapped, to_mapped}
+use Rattle.wesl_validate_rules.proofs.Finding.{from_mapped, to_mapped}
 use Rattle.wesl_validate_rules.specs.Faults.{name_round, IsUndefined, IsDuplicate}
 use Rattle.wesl_validate_rules.specs.Names.{plain_names}
 use Rattle.wesl_validate_rules.specs.Twice.{StandsTwice}
@@ -21,7 +21,7 @@ use Rattle.wesl_validate_faults.specs.Listed.{each_once, repeated_after, IsFirst
 use Rattle.wesl_validate_faults.proofs.Collecting.{of_once, once_apart, to_once}
 use Rattle.wesl_validate_faults.proofs.Repeated.{of_repeated, to_repeated}
 use Rattle.std.proofs.lemmas.Bool.{and_parts}
-use Rattle.wesl_scope_strip.proofs.Keeping.{contains_cases, contains_here}
+use Rattle.wesl_scope_strip.proofs.Keeping.{contains_cases, contains_here, contains_none}
 
 -- ---- the first of a list
 module _ (P : ℕ → Type 0) where

@@ -9,10 +9,9 @@ use Rattle.std.proofs.lemmas.List.Kept.{AllPairs-cons, AllPairs-filter}
 use Rattle.std.proofs.lemmas.Slice.Eq.{bytes_eq-Decides}
 use Rattle.wesl_tree_names.specs.Path.{Text}
 use Rattle.wesl_tree_interner.specs.Interned.{with_text}
-use Rattle.wesl_validate_rules.proofs.Finding.{contains_none}
 use Rattle.wesl_validate_free.specs.Free.{each_once}
 use mathlib.Core.Bool.{or-false}
-use Rattle.wesl_scope_strip.proofs.Keeping.{contains_cases, contains_here, contains_later}
+use Rattle.wesl_scope_strip.proofs.Keeping.{contains_cases, contains_here, contains_later, contains_none}
 
 -- ---- those that pass
 module _ {A : Type 0} (p : A → Bool) where

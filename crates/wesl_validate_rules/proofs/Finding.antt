@@ -1,5 +1,5 @@
 -- What is found by marks is what is not defined.
-use Rattle.std.proofs.Common.{◌≡◌, ◌⊎◌, ℕ, ◌<◌, Bool, true, false, not, ◌&&◌, ◌||◌, ◌==◌, cond, List, [], ◌∷◌, length, map, refl, sym, ap, ◌∙◌, subst, arith, inl, inr}
+use Rattle.std.proofs.Common.{◌≡◌, ◌⊎◌, ℕ, ◌<◌, Bool, true, false, not, ◌&&◌, ◌||◌, ◌==◌, cond, List, [], ◌∷◌, length, map, refl, sym, ap, ◌∙◌, subst, inl, inr}
 use Rattle.std.specs.Prelude.{Some, None}
 use Rattle.std.specs.List.{Contains, All, find, list_any}
 use Rattle.std.proofs.lemmas.List.Elements.{All-contains}
@@ -12,10 +12,7 @@ use Rattle.wesl_scope_strip.specs.Marks.{mark_at}
 use Rattle.wesl_validate_builtins.specs.Builtins.{BuiltinNames}
 use Rattle.wesl_validate_rules.specs.Valid.{is_bound, is_known, is_undefined}
 use Rattle.wesl_validate_rules.specs.Known.{is_meant, binds, is_unknown, IsUndefinedAt}
-use Rattle.wesl_scope_strip.proofs.Keeping.{contains_cases, contains_here, contains_later}
-
-pub contains_none : {A : Type 0} (m : A) → Contains [] m → ⊥
-contains_none m c = let l : c.0 < 0 = c.1 in omega (arith, l)
+use Rattle.wesl_scope_strip.proofs.Keeping.{contains_cases, contains_here, contains_later, contains_none}
 
 -- a search that finds nothing, and one that finds something
 module _ {A : Type 0} (p : A → Bool) where

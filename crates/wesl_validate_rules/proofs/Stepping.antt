@@ -14,8 +14,7 @@ use Rattle.wesl_validate_rules.specs.Graphs.{Graph, edges_at, Leads}
 use Rattle.wesl_validate_rules.specs.Valid.{LeadsTo}
 use Rattle.wesl_validate_rules.specs.Steps.{referred_here, referred, used_by, steps_here, used_in, steps}
 use Rattle.std.proofs.lemmas.Bool.{and_from, and_parts}
-use Rattle.wesl_scope_strip.proofs.Keeping.{contains_cases, contains_here, contains_later}
-use Rattle.wesl_validate_rules.proofs.Finding.{contains_none}
+use Rattle.wesl_scope_strip.proofs.Keeping.{contains_cases, contains_here, contains_later, contains_none}
 
 contains_one : {A : Type 0} (x m : A) → Contains (x ∷ []) m → x ≡ m
 contains_one x m (zero, l, e) = e

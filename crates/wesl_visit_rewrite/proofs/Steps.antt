@@ -16,14 +16,11 @@ use Rattle.wesl_visit_collect.specs.Held.{all_of, hollow_label}
 use Rattle.std.proofs.lemmas.Bool.{and_parts}
 use Rattle.wesl_visit_collect.proofs.Joined.{agrees}
 use Rattle.wesl_visit_collect.proofs.Labels.{hollow_picks}
+use Rattle.wesl_visit_collect.proofs.Adds.{joined}
 
 not_false : (b : Bool) → (true && not b) ≡ false → b ≡ true
 not_false true h = refl
 not_false false h = absurd (let x : ⊥ = cc in x)
-
-abbrev pub joined : Forest → Forest → Forest
-joined end g = g
-joined (tree l children others) g = tree l children (joined others g)
 
 module _ {k : Rule} where
   replaced_joined : {f g h i : Forest} → Replaced k f g → Replaced k h i → Replaced k (joined f h) (joined g i)

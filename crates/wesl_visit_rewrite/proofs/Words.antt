@@ -21,6 +21,7 @@ use Rattle.wesl_visit_collect.specs.Held.{all_of, flat_label, hollow_label, Attr
 use Rattle.wesl_visit_rewrite.proofs.Steps.{hollow_same, inner_by, joined_by, replaced_none, same, same_by, whole_by, within_by}
 use Rattle.wesl_visit_collect.proofs.Joined.{agrees}
 use Rattle.wesl_visit_collect.proofs.Labels.{flat_attributes, flat_statements}
+use Rattle.wesl_visit_collect.proofs.Words.{directive_attributes}
 
 abbrev flat : Forest → Bool
 flat = all_of flat_label
@@ -38,11 +39,6 @@ hollow = all_of hollow_label
 path_hollow : (p : Option ModulePath) (f : Forest) → hollow f ≡ true → hollow (before (optional path_tree p) f) ≡ true
 path_hollow None f h = h
 path_hollow (Some p) f h = h
-
-abbrev pub directive_attributes : GlobalDirective → Vec (Spanned Attribute) Global
-directive_attributes (directives.Diagnostic a s r) = a
-directive_attributes (directives.Enable a ns) = a
-directive_attributes (directives.Requires a ns) = a
 
 -- where no statement and no attributes stand, a visit of these leaves all as it was
 statements_same : (turns : Tree → Tree → Type 0) (d : Bool) (f : Forest) → flat f ≡ true → Replaced (rule statements turns d) f f

@@ -4,16 +4,16 @@ use Rattle.wesl_link_tables.specs.TextsView.{numbering_of_texts as numbering}
 use Rattle.wesl_link_tables.specs.declared.marks.Mark.{Mark}
 use Rattle.wesl_link_tables.specs.declared.marks.Mark.TheVariants as marks
 use Rattle.wesl_link_engine.proofs.Adding.{AllMeant, meant_more}
-use Rattle.wesl_link_engine.proofs.Lists.{at_has}
 use Rattle.wesl_link_engine.proofs.assemble.add_denotations.Goals as goal
 use Rattle.wesl_link_tables.proofs.Known.{below_held}
+use Rattle.wesl_link_symbols.proofs.Lists.{at_contains}
 
 pub denotation-requires-clause-held : goal.denotation-requires-clause-held
 denotation-requires-clause-held c =
     let i = c.loop-mark.mark-index in
     let none : Mark = marks.Declares (record { 0 = 0 }) in
     let m : Mark = get_or c.args.marks.now i none in
-    c.requires.held m (at_has c.args.marks.now i m (below_held c.args.marks.now i none c.loop-mark-test.true))
+    c.requires.held m (at_contains c.args.marks.now i m (below_held c.args.marks.now i none c.loop-mark-test.true))
 
 pub loop-mark-init : goal.loop-mark-init
 loop-mark-init c = (λ e. ([], sym (append-nil _), tt), refl, λ e. e)

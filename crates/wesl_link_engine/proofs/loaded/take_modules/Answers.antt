@@ -15,9 +15,9 @@ use Rattle.wesl_link_tables.specs.Numbering.{PathAt, AreRelated}
 use Rattle.wesl_link_tables.specs.NumbersView.{numbering}
 use Rattle.wesl_link_engine.specs.Taking.{unit_at, IsTaken, AreInOrder}
 use Rattle.wesl_link_engine.specs.declared.loaded.LoadedModule.{LoadedModule}
-use Rattle.wesl_link_engine.proofs.Lists.{at_has}
 use Rattle.wesl_link_engine.proofs.Taking.{unit_left, left_more, taken_more, drop_has}
 use Rattle.wesl_link_engine.proofs.loaded.take_modules.Goals as goal
+use Rattle.wesl_link_symbols.proofs.Lists.{at_contains}
 
 abbrev before : LoadedModule → LoadedModule → Bool
 before m n = is_lt (path_cmp m.path n.path)
@@ -34,7 +34,7 @@ pub path_of-requires : goal.path_of-requires
 path_of-requires c =
     let t = c.index-tables-index.result in
     let at : slice_get c.args.tables.now c.loop-index.index ≡ Some t = slice_get_read c.args.tables.now _ c.loop-index.index t refl c.loop-index-test.true c.index-tables-index.is in
-    rw c.path-id.ensures (c.requires.kept t (at_has c.args.tables.now c.loop-index.index t at)).0
+    rw c.path-id.ensures (c.requires.kept t (at_contains c.args.tables.now c.loop-index.index t at)).0
 
 pub take_unit-unit-requires : goal.take_unit-unit-requires
 take_unit-unit-requires c =

@@ -8,11 +8,11 @@ use Rattle.std.proofs.lemmas.Iterator.Consumers.{YieldsList-from_enumerate, Yiel
 use Rattle.wesl_link_engine.specs.Linked.{Placed, placed}
 use Rattle.wesl_link_engine.specs.Keeping.{module_of}
 use Rattle.wesl_link_engine.specs.Holding.{AddsPlaced}
-use Rattle.wesl_link_engine.proofs.Lists.{at_has}
 use Rattle.wesl_link_engine.proofs.Parted.{adds_none}
 use Rattle.wesl_link_engine.proofs.Adding.{declarations_are}
 use Rattle.wesl_link_engine.proofs.Turns.{numbered_at, table_stands, row_there, marks_there, all_taken, row_inside, refers, clear, next}
 use Rattle.wesl_link_engine.proofs.moving.move_module.Goals as goal
+use Rattle.wesl_link_symbols.proofs.Lists.{at_contains}
 
 pub table_at-table-requires : goal.table_at-table-requires
 table_at-table-requires c = let (l, of) = c.requires.sound in table_stands l c.args.numbers.now c.args.linked.now c.args.loaded of
@@ -57,7 +57,7 @@ index-marks-requires c =
     subst (λ j. j < m.marks.len) (sym place) (subst (λ k. n < k) (sym m.marks.ok.0) (marks_there l c.args.numbers.now c.args.linked.now m of c.table_at-table.result.now c.table_at-table.ensures xs all c.declarations-rows.result.now c.declarations-rows.ensures n b))
 
 pub move_declaration-requires-clause-loaded : goal.move_declaration-requires-clause-loaded
-move_declaration-requires-clause-loaded c = at_has c.args.linked.now.tables c.args.loaded.place c.table_at-table.result.now c.table_at-table.ensures
+move_declaration-requires-clause-loaded c = at_contains c.args.linked.now.tables c.args.loaded.place c.table_at-table.result.now c.table_at-table.ensures
 
 pub move_declaration-requires-clause-inside : goal.move_declaration-requires-clause-inside
 move_declaration-requires-clause-inside c =

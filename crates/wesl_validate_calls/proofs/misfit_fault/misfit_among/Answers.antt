@@ -7,9 +7,9 @@ use Rattle.wesl_validate_rules.specs.Known.{IsNamedBy}
 use Rattle.wesl_validate_calls.specs.Misfits.{MissesIn}
 use Rattle.wesl_validate_calls.specs.CallFaults.{TellsMisfit}
 use Rattle.wesl_validate_rules.specs.Valid.{IsFitting}
-use Rattle.wesl_validate_calls.proofs.Telling.{none_of}
 use Rattle.wesl_validate_calls.proofs.Misfitting.{is_fault, some_of}
 use Rattle.wesl_validate_calls.proofs.misfit_fault.misfit_among.Goals as goal
+use Rattle.wesl_validate_rules.proofs.Turns.{nothing_found}
 
 pub returns-in_ok-error-in-Some-clause-fault : goal.returns-in_ok-error-in-Some-clause-fault
 returns-in_ok-error-in-Some-clause-fault c =
@@ -25,4 +25,4 @@ returns-in_ok-error-in-Some-clause-fault c =
 
 pub returns-in-None-clause-none : goal.returns-in-None-clause-none
 returns-in-None-clause-none c =
-    none_of c.in_ok-first_misfit.field-0 (IsFitting (unit_view c.args.unit.now) (builtins_view c.args.builtins.now)) c.in-None.is c.in_ok-first_misfit.ensures.none
+    nothing_found c.in_ok-first_misfit.field-0 (IsFitting (unit_view c.args.unit.now) (builtins_view c.args.builtins.now)) c.in-None.is c.in_ok-first_misfit.ensures.none
