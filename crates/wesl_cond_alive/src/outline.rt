@@ -141,7 +141,7 @@ fn are_clean(attributes: &[AttributeNode]) -> bool
 
 /// Whether an expression is a formula: its flags have no template arguments, and nothing else stands in it.
 #[cycle(formulas)]
-#[tactic(auto, using(crate::proofs::Turns::faultless_both, crate::proofs::Views::view_binary))]
+#[tactic(auto, using(crate::proofs::Turns::faultless_both, wesl_tree_syntax::proofs::Views::view_binary))]
 fn is_formula(expression: &Expression) -> bool
     ensures { result ≡ is_faultless (formula_faults (λ flag. Keep) (form (expression_view expression.now))) }
 {

@@ -39,7 +39,7 @@ impl<'a> Walk<'a> {
     }
 
     #[cycle(statements)]
-    #[tactic(auto, using(crate::proofs::Views::view_if, crate::proofs::Views::view_switch, crate::proofs::Views::view_for))]
+    #[tactic(auto, using(wesl_tree_syntax::proofs::Views::view_if, wesl_tree_syntax::proofs::Views::view_switch, wesl_tree_syntax::proofs::Views::view_for))]
     pub fn statement(&mut self, here: &Here, statement: &'a Statement)
         ensures { Walks (here_view here.now) self.old self.new (statement_view statement.now) }
     {

@@ -229,7 +229,7 @@ impl Conditional for Spanned<Statement> {
         self.span
     }
 
-    #[tactic(auto, using(crate::proofs::Views::view_compound))]
+    #[tactic(auto, using(wesl_tree_syntax::proofs::Views::view_compound))]
     fn attributes(&self) -> &[AttributeNode] {
         match &self.node {
             Statement::Void => &[],
@@ -252,7 +252,7 @@ impl Conditional for Spanned<Statement> {
         }
     }
 
-    #[tactic(auto, using(crate::proofs::Views::view_compound))]
+    #[tactic(auto, using(wesl_tree_syntax::proofs::Views::view_compound))]
     fn recast(&mut self, role: Role, names: &Names, features: &Features) {
         match &mut self.node {
             Statement::Void => {}

@@ -65,7 +65,7 @@ impl<'a, H: Handler> Walk<'a, H> {
 
     /// A call: the name that is called, then its arguments.
     #[cycle(expressions)]
-    #[tactic(auto, using(crate::proofs::Views::view_call))]
+    #[tactic(auto, using(wesl_tree_syntax::proofs::Views::view_call))]
     pub fn call(&mut self, here: &Here, call: &'a FunctionCall)
         ensures { Walks H.after (here_view here.now) self.old self.new (call_view call.now) }
     {

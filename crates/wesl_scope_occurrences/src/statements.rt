@@ -53,7 +53,7 @@ impl<'a, H: Handler> Walk<'a, H> {
 
     /// A statement.
     #[cycle(statements)]
-    #[tactic(auto, using(crate::proofs::Views::view_if, crate::proofs::Views::view_switch, crate::proofs::Views::view_for))]
+    #[tactic(auto, using(wesl_tree_syntax::proofs::Views::view_if, wesl_tree_syntax::proofs::Views::view_switch, wesl_tree_syntax::proofs::Views::view_for))]
     pub fn statement(&mut self, here: &Here, statement: &'a Statement)
         ensures { Walks H.after (here_view here.now) self.old self.new (statement_view statement.now) }
     {
@@ -188,7 +188,7 @@ impl<'a, H: Handler> Walk<'a, H> {
 
     /// A body: its attributes, then its statements in the block that its holder opens.
     #[cycle(statements)]
-    #[tactic(auto, using(crate::proofs::Views::view_compound))]
+    #[tactic(auto, using(wesl_tree_syntax::proofs::Views::view_compound))]
     pub fn compound(&mut self, here: &Here, body: &'a CompoundStatement)
         ensures { Walks H.after (here_view here.now) self.old self.new (compound_view body.now) }
     {

@@ -7,6 +7,13 @@ use Rattle.wesl_scope_strip.specs.Marks.{mark_at}
 use mathlib.Core.Bool.{and-false, and-true, or-false}
 pub use Rattle.wesl_scope_graph.proofs.Meeting.{one_fewer}
 
+-- by names that attributes of the sources can cite
+pub or_false : (a : Bool) → (a || false) ≡ a
+or_false a = or-false a
+
+pub and_true_right : (a : Bool) → (a && true) ≡ a
+and_true_right a = and-true a
+
 pub or_assoc : (a b c : Bool) → ((a || b) || c) ≡ (a || (b || c))
 or_assoc true b c = refl
 or_assoc false b c = refl

@@ -6,6 +6,10 @@ use Rattle.wesl_tree_syntax.specs.View.{placed}
 use Rattle.wesl_tree_syntax.specs.declared.span.Spanned.{Spanned}
 use mathlib.Core.Bool.{and-false, and-true}
 
+-- by a name that attributes of the sources can cite
+pub and_true : (b : Bool) → (b && true) ≡ b
+and_true b = and-true b
+
 module _ {A : Type 0} (view : A → Tree) (n : ℕ) where
   abbrev pub all_below : List A → Bool
   all_below xs = forest_below n (forest_of (map view xs))

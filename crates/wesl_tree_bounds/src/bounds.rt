@@ -51,7 +51,7 @@ pub fn nodes_are_below(bound: usize, nodes: &Vec<ExpressionNode>) -> bool
 }
 
 #[cycle(bounds)]
-#[tactic(auto, using(crate::proofs::Below::and_true, crate::proofs::Views::view_call))]
+#[tactic(auto, using(crate::proofs::Below::and_true, wesl_tree_syntax::proofs::Views::view_call))]
 pub fn call_is_below(bound: usize, call: &FunctionCall) -> bool
     ensures { result ≡ tree_below bound (call_view call.now) }
 {

@@ -157,7 +157,7 @@ pub fn optional_statement_is_below(bound: usize, node: &Option<Box<StatementNode
 }
 
 #[cycle(bounds)]
-#[tactic(auto, using(crate::proofs::Below::steps, crate::proofs::Views::view_compound))]
+#[tactic(auto, using(crate::proofs::Below::steps, wesl_tree_syntax::proofs::Views::view_compound))]
 pub fn compound_is_below(bound: usize, body: &CompoundStatement) -> bool
     ensures { result ≡ tree_below bound (compound_view body.now) }
 {

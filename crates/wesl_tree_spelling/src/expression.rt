@@ -114,7 +114,7 @@ impl Tables<'_> {
     }
 
     #[cycle(expression)]
-    #[tactic(auto, using(crate::proofs::Bools::steps, crate::proofs::Views::view_call))]
+    #[tactic(auto, using(crate::proofs::Bools::steps, wesl_tree_syntax::proofs::Views::view_call))]
     pub(crate) fn same_call(&self, left: &FunctionCall, right: &FunctionCall) -> bool
         ensures { result ≡ same_in self.now (call_view left.now) (call_view right.now) }
     {

@@ -363,7 +363,7 @@ impl Tables<'_> {
     }
 
     #[cycle(statement)]
-    #[tactic(auto, using(crate::proofs::Bools::steps, crate::proofs::Views::view_compound))]
+    #[tactic(auto, using(crate::proofs::Bools::steps, wesl_tree_syntax::proofs::Views::view_compound))]
     pub(crate) fn same_compound(&self, left: &CompoundStatement, right: &CompoundStatement) -> bool
         ensures { result ≡ same_in self.now (compound_view left.now) (compound_view right.now) }
     {

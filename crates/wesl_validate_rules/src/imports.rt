@@ -46,7 +46,7 @@ fn add_item(numbers: &mut Vec<usize>, item: &ImportItem) -> Result<(), AllocErro
 
 /// Adds the names that the content of an import binds.
 #[cycle(imports)]
-#[tactic(auto, using(crate::proofs::Gathering::view_entry))]
+#[tactic(auto, using(wesl_tree_syntax::proofs::Views::view_entry))]
 fn add_content(numbers: &mut Vec<usize>, content: &ImportContent) -> Result<(), AllocError>
     ensures { OnOk result (numbers.new.items ≡ gathered numbers.old.items (before (content_view content.now) end)) }
 {
