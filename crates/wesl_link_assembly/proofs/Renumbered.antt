@@ -8,8 +8,8 @@ use Rattle.wesl_tree_syntax.specs.declared.span.Spanned.{Spanned}
 use Rattle.wesl_tree_syntax.specs.declared.declaration.GlobalDirective.{GlobalDirective}
 use Rattle.wesl_tree_syntax.specs.declared.declaration.GlobalDeclaration.{GlobalDeclaration}
 use Rattle.wesl_tree_copies.specs.Renumbered.{renumbered, after, other_numbers}
-use Rattle.wesl_scope_clash.specs.Leaves.{are_leaves}
-use Rattle.wesl_scope_clash.proofs.Leaves.{have_leaves}
+use Rattle.wesl_scope_numbers.specs.Leaves.{are_leaves}
+use Rattle.wesl_scope_numbers.proofs.Leaves.{have_leaves}
 use Rattle.wesl_link_assembly.specs.Linked.{nodes_of}
 
 abbrev pub shape_of : {I : Type 0} → ForestOf I → ForestOf (Unit {0})

@@ -13,7 +13,7 @@ use Rattle.wesl_link_assembly.proofs.Pathless.{respelled_without}
 use Rattle.wesl_link_assembly.proofs.Replaced.{replaced_twice}
 use Rattle.wesl_link_assembly.proofs.Units.{one_unit}
 use Rattle.wesl_link_assembly.proofs.Renumbered.{paired}
-use Rattle.wesl_scope_clash.proofs.Canonical.{mapped_length}
+use Rattle.wesl_scope_numbers.proofs.Canonical.{mapped_length}
 
 abbrev pub forget : {I : Type 0} → I → Unit {0}
 forget i = tt

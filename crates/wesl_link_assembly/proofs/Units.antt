@@ -2,7 +2,7 @@
 use Rattle.std.proofs.Common.{◌≡◌}
 use Rattle.wesl_tree_syntax.specs.Tree.{LabelOf, ForestOf}
 use Rattle.wesl_tree_syntax.specs.Unit.{UnitOf, forest_of_unit}
-use Rattle.wesl_scope_clash.proofs.Taken.{unit_with}
+use Rattle.wesl_scope_numbers.proofs.Taken.{unit_with}
 
 one_of : {X : Type 0} (a a' : LabelOf X) (b b' : ForestOf X) (c c' : LabelOf X) (d d' : ForestOf X) (e e' : LabelOf X) (f f' : ForestOf X) → a ≡ a' → b ≡ b' → c ≡ c' → d ≡ d' → e ≡ e' → f ≡ f' → unit_with a b c d e f ≡ unit_with a' b' c' d' e' f'
 one_of a a' b b' c c' d d' e e' f f' p q r s t u = cc

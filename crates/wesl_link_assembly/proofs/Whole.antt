@@ -9,9 +9,9 @@ use Rattle.wesl_tree_syntax.specs.Numbers.{AreNumbers, number_at}
 use Rattle.wesl_tree_copies.specs.Renumbered.{renumbered}
 use Rattle.wesl_tree_renumber.specs.Renumbers.{Renumbered as NumberedTree}
 use Rattle.wesl_tree_renumber.specs.declared.renumbering.Renumbering.{Renumbering}
-use Rattle.wesl_scope_clash.specs.Leaves.{are_leaves}
-use Rattle.wesl_scope_clash.proofs.Taken.{numbers_are, taken}
-use Rattle.wesl_scope_clash.proofs.Units.{each_below, parts_below}
+use Rattle.wesl_scope_numbers.specs.Leaves.{are_leaves}
+use Rattle.wesl_scope_numbers.proofs.Taken.{numbers_are, taken}
+use Rattle.wesl_scope_numbers.proofs.Units.{each_below, parts_below}
 use Rattle.wesl_link_assembly.specs.Pathless.{without_paths}
 use Rattle.wesl_link_assembly.specs.Linked.{printed_unit, IsLinkedAs}
 use Rattle.wesl_link_assembly.proofs.Pathless.{same_identifiers, respelled_without}
@@ -19,7 +19,7 @@ use Rattle.wesl_link_assembly.proofs.Replaced.{replaced_twice, identifiers_repla
 use Rattle.wesl_link_assembly.proofs.Units.{one_unit}
 use Rattle.wesl_link_assembly.proofs.Renumbered.{same_shape}
 use Rattle.wesl_link_assembly.proofs.Numbering.{Numbered, at_number}
-use Rattle.wesl_scope_clash.proofs.Canonical.{mapped_length}
+use Rattle.wesl_scope_numbers.proofs.Canonical.{mapped_length}
 use Rattle.wesl_link_assembly.proofs.Retold.{forget}
 
 -- each number that is below the count stands among the numbers, and no other does

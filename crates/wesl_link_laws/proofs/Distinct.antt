@@ -7,7 +7,7 @@ use Rattle.wesl_tree_names.specs.Path.{Text, Path}
 use Rattle.wesl_link_symbols.specs.declared.symbols.Symbol.{Symbol}
 use Rattle.wesl_link_reach.specs.World.{Task, Reached}
 use Rattle.wesl_scope_occurrences.specs.Occurrences.{Occurrence}
-use Rattle.wesl_scope_clash.specs.Faithful.{is_global, name_of}
+use Rattle.wesl_scope_numbers.specs.Faithful.{is_global, name_of}
 use Rattle.wesl_link_assembly.specs.Denotations.{symbol}
 use Rattle.wesl_link_engine.specs.Worlds.{Module, tables}
 use Rattle.wesl_link_engine.specs.Linked.{Denotation}

@@ -16,7 +16,7 @@ use Rattle.wesl_link_symbols.proofs.Lists.{contains_nil, contains_first, contain
 use Rattle.wesl_link_reach.proofs.Lists.{contains_map}
 use Rattle.wesl_scope_occurrences.specs.Laws.{WaysLeadOutwards, OccurrencesAreIdentifiers}
 use Rattle.wesl_scope_occurrences.specs.Occurrences.{Occurrence, occurrences}
-use Rattle.wesl_scope_clash.specs.Faithful.{name_of, IsFaithful}
+use Rattle.wesl_scope_numbers.specs.Faithful.{name_of, IsFaithful}
 use Rattle.wesl_link_tables.specs.Numbering.{Numbering, NameAt, PathAt, AreRelated, IsRelatedOption, SameDeclaration, IsNumbered}
 use Rattle.wesl_link_tables.specs.TextsView.{numbering_of_texts as numbering}
 use Rattle.wesl_link_assembly.specs.Denotations.{symbol, printed_as}

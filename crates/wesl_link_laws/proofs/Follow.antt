@@ -7,8 +7,8 @@ use Rattle.std.proofs.lemmas.Slice.Eq.{bytes_eq-Decides}
 use Rattle.wesl_tree_names.specs.Path.{Text, Path}
 use Rattle.wesl_scope_occurrences.specs.Occurrences.{Block, Standing, module_name, parameter, local as local_name, reference, word, Occurrence, is_binder, is_unqualified}
 use Rattle.wesl_scope_meanings.specs.Scopes.{free}
-use Rattle.wesl_scope_clash.specs.Faithful.{name_of}
-use Rattle.wesl_scope_clash.specs.Retargeted.{unbound_as, IsUnbound, FollowMeanings}
+use Rattle.wesl_scope_numbers.specs.Faithful.{name_of}
+use Rattle.wesl_scope_numbers.specs.Retargeted.{unbound_as, IsUnbound, FollowMeanings}
 use Rattle.wesl_link_assembly.specs.Denotations.{DenotationOf, symbol, local, free_name}
 
 abbrev pub Denotation : Type 0

@@ -17,7 +17,7 @@ use Rattle.wesl_link_laws.proofs.Parts.{blocks_of, part_first}
 use Rattle.wesl_link_laws.proofs.Modules.{outside, IsOutside, later_outside}
 use Rattle.wesl_link_laws.proofs.Sources.{Source, own_part, use_in, placed_of, Before}
 use Rattle.wesl_link_laws.proofs.Lists.{same_parts, pairs_length, pairs_left, pairs_right, pairs_both, related_pairs, related_length, joined_so, InOrder}
-use Rattle.wesl_scope_clash.proofs.Canonical.{mapped_length}
+use Rattle.wesl_scope_numbers.proofs.Canonical.{mapped_length}
 use Rattle.wesl_link_assembly.proofs.Renumbered.{shape_of}
 
 -- ---- nodes whose fields stand in the module's block

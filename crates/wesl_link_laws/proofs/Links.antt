@@ -5,9 +5,9 @@ use Rattle.wesl_tree_syntax.specs.Unit.{UnitOf, UnitView, empty_unit}
 use Rattle.wesl_link_reach.specs.World.{Task}
 use Rattle.wesl_link_reach.proofs.Lists.{contains_map}
 use Rattle.wesl_scope_occurrences.specs.Laws.{WaysLeadOutwards, OccurrencesAreIdentifiers}
-use Rattle.wesl_scope_clash.specs.Faithful.{IsFaithful}
+use Rattle.wesl_scope_numbers.specs.Faithful.{IsFaithful}
 use Rattle.wesl_link_laws.specs.Apart.{NamesAreApart}
-use Rattle.wesl_scope_clash.specs.Retargeted.{IsNumberedByMeaning}
+use Rattle.wesl_scope_numbers.specs.Retargeted.{IsNumberedByMeaning}
 use Rattle.wesl_link_engine.specs.Given.{Given}
 use Rattle.wesl_link_tables.specs.TextsView.{numbering_of_texts as numbering}
 use Rattle.wesl_link_engine.specs.Worlds.{Module}

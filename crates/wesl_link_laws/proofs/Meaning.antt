@@ -3,7 +3,7 @@ use Rattle.std.proofs.Common.{◌≡◌, ℕ, zero, suc, ◌<◌, Bool, true, fa
 use Rattle.std.specs.Prelude.{◌==◌, slice_index_or, if◌then◌else◌}
 use Rattle.std.proofs.lemmas.Bool.Decides.{Decides-eqb}
 use Rattle.wesl_tree_syntax.specs.Numbers.{AreNumbers, number_at}
-use Rattle.wesl_scope_clash.proofs.Canonical.{mapped_length}
+use Rattle.wesl_scope_numbers.proofs.Canonical.{mapped_length}
 
 module _ {K : Type 0} (d : K) where
   -- what the first of that number stands for

@@ -17,7 +17,7 @@ use Rattle.wesl_scope_occurrences.specs.Occurrences.{Block, Standing, module_nam
 use Rattle.wesl_scope_occurrences.specs.Pieces.{declarations_in}
 use Rattle.wesl_scope_meanings.specs.Scopes.{Key, bound, free, qualified, is_visible, key_of}
 use Rattle.wesl_scope_meanings.specs.Keys.{number_of}
-use Rattle.wesl_scope_clash.specs.Faithful.{name_of as printed_name}
+use Rattle.wesl_scope_numbers.specs.Faithful.{name_of as printed_name}
 use Rattle.wesl_link_tables.specs.Uses.{Use, asked, declares}
 use Rattle.wesl_link_tables.specs.Tables.{name_of}
 use Rattle.wesl_link_assembly.specs.Denotations.{symbol, local, free_name}

@@ -11,8 +11,8 @@ use Rattle.wesl_link_reach.specs.Faults.{AreDistinct}
 use Rattle.wesl_link_reach.proofs.Lists.{contains_map, map_contains}
 use Rattle.wesl_scope_occurrences.specs.Occurrences.{Occurrence, occurrences}
 use Rattle.wesl_scope_occurrences.specs.Laws.{WaysLeadOutwards, OccurrencesAreIdentifiers}
-use Rattle.wesl_scope_clash.specs.Faithful.{name_of, IsFaithful}
-use Rattle.wesl_scope_clash.specs.Retargeted.{RunByFirst, IsNumberedByMeaning}
+use Rattle.wesl_scope_numbers.specs.Faithful.{name_of, IsFaithful}
+use Rattle.wesl_scope_numbers.specs.Retargeted.{RunByFirst, IsNumberedByMeaning}
 use Rattle.wesl_link_assembly.specs.Denotations.{free_name, printed_as}
 use Rattle.wesl_link_assembly.specs.Pathless.{without_paths}
 use Rattle.wesl_link_laws.proofs.Meaning.{first_meaning, denoted}
@@ -34,7 +34,7 @@ use Rattle.wesl_link_laws.proofs.Distinct.{names_apart}
 use Rattle.wesl_link_laws.proofs.Spelled.{reads_right}
 use Rattle.wesl_link_laws.proofs.Follow.{StandSo, follow}
 use Rattle.wesl_link_laws.proofs.Meant.{IsLaidOut, InUnit, stand_so}
-use Rattle.wesl_scope_clash.proofs.Canonical.{mapped_twice}
+use Rattle.wesl_scope_numbers.proofs.Canonical.{mapped_twice}
 use Rattle.wesl_link_assembly.proofs.Renumbered.{shape_of}
 
 module _ (lead : WaysLeadOutwards) (identified : OccurrencesAreIdentifiers) (w : List Module) (task : Task Path Text) (names : Path → Text → Text) (u : UnitView) (a : IsAssembled w task names u)

@@ -9,7 +9,7 @@ use Rattle.wesl_link_symbols.proofs.Lists.{contains_nil, contains_first, contain
 use Rattle.wesl_scope_occurrences.specs.Occurrences.{Block, word, Occurrence, occurrences}
 use Rattle.wesl_scope_meanings.specs.Keys.{named as named_in}
 use Rattle.wesl_scope_meanings.specs.Scopes.{is_visible, binds, binder_of}
-use Rattle.wesl_scope_clash.specs.Faithful.{name_of, first_filled, binders_in, binders_of}
+use Rattle.wesl_scope_numbers.specs.Faithful.{name_of, first_filled, binders_in, binders_of}
 use Rattle.wesl_link_assembly.specs.Denotations.{local}
 use Rattle.wesl_link_engine.specs.Worlds.{Module, tables}
 use Rattle.wesl_link_engine.specs.Linked.{Denotation, Placed}

@@ -7,7 +7,7 @@ use Rattle.wesl_tree_syntax.specs.Numbers.{AreNumbers, number_at}
 use Rattle.wesl_scope_occurrences.specs.Occurrences.{Block, Occurrence}
 use Rattle.wesl_scope_meanings.specs.Scopes.{binds}
 use Rattle.wesl_scope_meanings.specs.Keys.{named}
-use Rattle.wesl_scope_clash.specs.Faithful.{first_filled, name_of, binders_in, binders_of, AgreeOn, ReadRight}
+use Rattle.wesl_scope_numbers.specs.Faithful.{first_filled, name_of, binders_in, binders_of, AgreeOn, ReadRight}
 use Rattle.wesl_link_laws.specs.Reading.{StandFor, ReadsAsMeant}
 use Rattle.wesl_link_laws.proofs.Meaning.{one_number}
 

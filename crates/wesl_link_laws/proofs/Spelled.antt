@@ -11,8 +11,8 @@ use Rattle.wesl_link_symbols.proofs.Lists.{contains_nil}
 use Rattle.wesl_scope_occurrences.specs.Occurrences.{Block, Standing, module_name, parameter, local as local_name, reference, word, Occurrence, occurrences, is_binder, is_unqualified}
 use Rattle.wesl_scope_meanings.specs.Keys.{named as named_in}
 use Rattle.wesl_scope_meanings.specs.Scopes.{bound, is_visible, binds, binder_of, meaning, key_as}
-use Rattle.wesl_scope_clash.specs.Faithful.{is_global, name_of, first_filled, binders_in, binders_of, AgreeOn, ReadRight}
-use Rattle.wesl_scope_clash.specs.Retargeted.{IsUnbound}
+use Rattle.wesl_scope_numbers.specs.Faithful.{is_global, name_of, first_filled, binders_in, binders_of, AgreeOn, ReadRight}
+use Rattle.wesl_scope_numbers.specs.Retargeted.{IsUnbound}
 use Rattle.wesl_link_tables.specs.Uses.{refers}
 use Rattle.wesl_link_assembly.specs.Denotations.{symbol, local, free_name}
 use Rattle.wesl_link_engine.specs.Worlds.{Module, tables}
@@ -31,7 +31,7 @@ use Rattle.wesl_link_laws.proofs.Corresponding.{bound_so, binds_so}
 use Rattle.wesl_link_laws.proofs.Picking.{filtered, kept_in, none_there, Picks, in_a_function, in_no_function, picks}
 use mathlib.Core.Bool.{and-false}
 use Rattle.wesl_link_laws.proofs.Distinct.{not_so}
-use Rattle.wesl_scope_clash.proofs.Canonical.{visible_binder}
+use Rattle.wesl_scope_numbers.proofs.Canonical.{visible_binder}
 
 not_global : (o : Occurrence ℕ) (k : ℕ) (outer : Block) → o.block ≡ k ∷ outer → is_global o ≡ false
 not_global o k outer e = ap (λ b. is_binder o.role && bytes_eq b []) e ∙ and-false (is_binder o.role)

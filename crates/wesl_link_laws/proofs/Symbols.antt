@@ -7,7 +7,7 @@ use Rattle.wesl_tree_names.specs.Path.{Text, Path}
 use Rattle.wesl_link_symbols.specs.Names.{Declares}
 use Rattle.wesl_link_reach.specs.World.{Task, Entered, Reached}
 use Rattle.wesl_scope_occurrences.specs.Occurrences.{Block, Standing, module_name, parameter, local as local_name, reference, word, Occurrence, is_binder}
-use Rattle.wesl_scope_clash.specs.Faithful.{is_global}
+use Rattle.wesl_scope_numbers.specs.Faithful.{is_global}
 use Rattle.wesl_link_tables.specs.Tables.{name_of}
 use Rattle.wesl_link_assembly.specs.Denotations.{symbol}
 use Rattle.wesl_link_engine.specs.Worlds.{Module, table, tables}

@@ -17,7 +17,7 @@ use Rattle.wesl_link_laws.proofs.Wordy.{Directives}
 use Rattle.wesl_link_laws.proofs.Modules.{module_node, IsModule, in_parts, imports_part, directives_part, globals_part, directives_place, directives_number}
 use Rattle.wesl_link_laws.proofs.Directed.{directives_typed, all_words}
 use Rattle.wesl_link_laws.proofs.Lists.{same_parts}
-use Rattle.wesl_scope_clash.proofs.Canonical.{mapped_length}
+use Rattle.wesl_scope_numbers.proofs.Canonical.{mapped_length}
 use Rattle.wesl_link_assembly.proofs.Renumbered.{shape_of}
 
 shape_again : {I J : Type 0} (g : I → J) (f : ForestOf I) → shape_of (respell_forest g f) ≡ shape_of f

@@ -13,7 +13,7 @@ use Rattle.wesl_link_assembly.proofs.Replaced.{identifiers_replaced}
 use Rattle.wesl_link_laws.specs.ReadAsMeant.{FaithfulReadsAsMeant}
 use Rattle.wesl_link_laws.proofs.Meaning.{first_meaning, denoted}
 use Rattle.wesl_link_laws.proofs.ReadAs.{reads_as_meant, reads_right}
-use Rattle.wesl_scope_clash.proofs.Canonical.{mapped_twice}
+use Rattle.wesl_scope_numbers.proofs.Canonical.{mapped_twice}
 
 same_first : {X Y : Type 0} (f g : X → Y) (x : X) (xs : List X) → map f (x ∷ xs) ≡ map g (x ∷ xs) → f x ≡ g x
 same_first f g x xs e = cc

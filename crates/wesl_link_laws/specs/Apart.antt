@@ -4,8 +4,8 @@ use Rattle.std.specs.List.{All}
 use Rattle.wesl_tree_names.specs.Path.{Text}
 use Rattle.wesl_tree_syntax.specs.Unit.{UnitView, trees_of}
 use Rattle.wesl_scope_occurrences.specs.Occurrences.{Occurrence, occurrences, is_binder, is_unqualified}
-use Rattle.wesl_scope_clash.specs.Faithful.{is_global, name_of}
-use Rattle.wesl_scope_clash.specs.Retargeted.{IsUnbound}
+use Rattle.wesl_scope_numbers.specs.Faithful.{is_global, name_of}
+use Rattle.wesl_scope_numbers.specs.Retargeted.{IsUnbound}
 
 module _ (names : List Text) (all : List (Occurrence ℕ)) where
   -- parameters, local declarations and references whose number no binder has are so

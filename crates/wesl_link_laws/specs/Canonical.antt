@@ -5,7 +5,7 @@ use Rattle.wesl_tree_names.specs.Path.{Text}
 use Rattle.wesl_tree_syntax.specs.Unit.{UnitOf}
 use Rattle.wesl_scope_occurrences.specs.Occurrences.{occurrences}
 use Rattle.wesl_scope_meanings.specs.Scopes.{keys}
-use Rattle.wesl_scope_clash.specs.Canonical.{canonical}
+use Rattle.wesl_scope_numbers.specs.Canonical.{canonical}
 
 -- the canonical numbers of the identifiers of a module, in document order
 abbrev pub canonical_numbers : UnitOf Text → List ℕ

@@ -3,7 +3,7 @@ use Rattle.std.specs.Prelude.{◌≡◌, ◌≢◌, ℕ, true, Some, List, [], �
 use Rattle.wesl_tree_names.specs.Path.{Text, Path}
 use Rattle.wesl_tree_syntax.specs.Unit.{UnitView, trees_of}
 use Rattle.wesl_scope_occurrences.specs.Occurrences.{Occurrence, occurrences}
-use Rattle.wesl_scope_clash.specs.Faithful.{name_of}
+use Rattle.wesl_scope_numbers.specs.Faithful.{name_of}
 use Rattle.wesl_link_symbols.specs.declared.symbols.Symbol.{Symbol}
 use Rattle.wesl_link_reach.specs.World.{Task, Reached}
 use Rattle.wesl_mangle_forms.specs.Escape.{escape, unescape, is_reversible}

@@ -24,7 +24,7 @@ use Rattle.wesl_link_laws.specs.Builders.{
   const_value,
   let_value,
 }
-use Rattle.wesl_scope_clash.specs.Test.{is_faithful}
+use Rattle.wesl_scope_numbers.specs.Test.{is_faithful}
 use Rattle.wesl_link_laws.specs.Units.{unit_of, call_of, is_retargeted}
 
 -- const x = 1; fn f(x: i32) { let y = x; }

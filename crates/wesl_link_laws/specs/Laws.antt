@@ -6,7 +6,7 @@ use Rattle.wesl_tree_syntax.specs.Unit.{UnitView, spelled, numbers}
 use Rattle.wesl_tree_syntax.specs.Numbers.{AreNumbers}
 use Rattle.wesl_scope_occurrences.specs.Occurrences.{occurrences}
 use Rattle.wesl_scope_meanings.specs.Scopes.{keys}
-use Rattle.wesl_scope_clash.specs.Faithful.{IsFaithful}
+use Rattle.wesl_scope_numbers.specs.Faithful.{IsFaithful}
 use Rattle.wesl_mangle_forms.specs.Escape.{escape}
 use Rattle.wesl_link_reach.specs.World.{Task}
 use Rattle.wesl_link_engine.specs.Worlds.{Module}

@@ -2,7 +2,7 @@
 use Rattle.std.specs.Prelude.{◌↔◌, ℕ, List}
 use Rattle.wesl_tree_names.specs.Path.{Text, Path}
 use Rattle.wesl_tree_syntax.specs.Unit.{UnitOf, UnitView}
-use Rattle.wesl_scope_clash.specs.Faithful.{IsFaithful}
+use Rattle.wesl_scope_numbers.specs.Faithful.{IsFaithful}
 use Rattle.wesl_link_assembly.specs.Denotations.{DenotationOf}
 use Rattle.wesl_link_assembly.specs.Linked.{IsLinkedAs}
 use Rattle.wesl_link_laws.specs.Reading.{IsReadAsMeant}

@@ -4,7 +4,7 @@ use Rattle.std.specs.List.{All}
 use Rattle.wesl_tree_names.specs.Path.{Text}
 use Rattle.wesl_tree_syntax.specs.Unit.{UnitView, name_in, trees_of, numbers}
 use Rattle.wesl_scope_occurrences.specs.Occurrences.{Occurrence, occurrences, is_binder, is_unqualified}
-use Rattle.wesl_scope_clash.specs.Faithful.{is_global, name_of, binders_of}
+use Rattle.wesl_scope_numbers.specs.Faithful.{is_global, name_of, binders_of}
 
 -- the identifiers of a unit, each with its number `o.name`, which has a name in the table and stands for `means` of it
 module _ {K : Type 0} (names : List Text) (all : List (Occurrence ℕ)) (means : ℕ → K) where

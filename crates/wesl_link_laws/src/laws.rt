@@ -3,7 +3,7 @@ ghost use Rattle.wesl_link_laws.specs.Laws.{LinkedIsCanonical, ApartIsFaithful, 
 
 use wesl_link_sound::law_of_sound_links;
 use wesl_mangle_forms::escape_round_trip;
-use wesl_scope_clash::law_of_canonical_numbers;
+use wesl_scope_numbers::law_of_canonical_numbers;
 use wesl_scope_occurrences::{law_of_occurrences, law_of_ways};
 
 /// A linked unit is faithful exactly where its numbers are the canonical numbers of plain scoping on it: `retarget_idents`

@@ -8,7 +8,7 @@ use Rattle.wesl_tree_names.specs.PathText.{to_text}
 use Rattle.wesl_tree_syntax.specs.Unit.{UnitView}
 use Rattle.wesl_json_form.specs.Units.{written_as}
 use Rattle.wesl_json_form.specs.Writing.{span_value}
-use Rattle.wesl_scope_clash.specs.Faithful.{IsFaithful}
+use Rattle.wesl_scope_numbers.specs.Faithful.{IsFaithful}
 use Rattle.wesl_program_bundle.specs.Bundle.{Bundle, bundle_of}
 use Rattle.wesl_program_bundle.specs.Forms.{IsBrokenBundle}
 use Rattle.wesl_tree_names.specs.declared.errors.Error as error

@@ -7,7 +7,7 @@ use Rattle.wesl_tree_syntax.specs.Unit.{UnitView, name_in}
 use Rattle.wesl_scope_strip.specs.Declarations.{count, declared_in, referred_in, IsKept, named, nameless, reached}
 use Rattle.wesl_scope.specs.Strip.{IsStripped, marked}
 use Rattle.wesl_scope_strip.specs.Marks.{mark_at}
-use Rattle.wesl_scope_clash.proofs.Verdict.{same_truth}
+use Rattle.wesl_scope_numbers.proofs.Verdict.{same_truth}
 
 pub one_way : (keep : List Text) (old a b : UnitView) → IsStripped keep old a → IsStripped keep old b → a.declarations ≡ b.declarations
 one_way keep old a b s t =

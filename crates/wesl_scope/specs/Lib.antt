@@ -1,8 +1,8 @@
 pub use Rattle.wesl_tree_syntax.specs.Numbers
 pub use Rattle.wesl_scope_occurrences.specs.Occurrences
 pub use Rattle.wesl_scope_open.specs.Scopes
-pub use Rattle.wesl_scope_clash.specs.Faithful
-pub use Rattle.wesl_scope_clash.specs.Nodes
+pub use Rattle.wesl_scope_numbers.specs.Faithful
+pub use Rattle.wesl_scope_numbers.specs.Nodes
 pub use Rattle.wesl_scope_clashes.specs.Clashes
 pub use Rattle.wesl_scope_spans.specs.Spans
 pub use Rattle.wesl_scope_spans.specs.Extents

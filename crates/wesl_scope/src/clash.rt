@@ -2,10 +2,10 @@
 ghost use Rattle.std.specs.Prelude.{◌≡◌, ◌↔◌, false, IfOk, IfErr};
 ghost use Rattle.wesl_tree_names.specs.declared.errors.Error as error;
 ghost use Rattle.wesl_tree.specs.Translation.{unit_view};
-ghost use Rattle.wesl_scope_clash.specs.Faithful.{IsFaithful};
+ghost use Rattle.wesl_scope_numbers.specs.Faithful.{IsFaithful};
 
 use std::alloc::Global;
-use wesl_scope_clash::{law_of_faith, readings_of};
+use wesl_scope_numbers::{law_of_faith, readings_of};
 use wesl_tree::{Error, TranslationUnit};
 
 /// Whether the names of a module, read by plain scoping (WGSL, "Declaration and Scope"), mean something else than its

@@ -1,5 +1,5 @@
 //! What is asked of a module's tree and done to it by scopes: entry points, new numbers by meaning, and stripping; and whether
-//! its names, printed and read again, would mean something else than its numbers say (`wesl_scope_clash` does the work). With
+//! its names, printed and read again, would mean something else than its numbers say (`wesl_scope_numbers` does the work). With
 //! what clashes, where identifiers stand in the source, which names are free, the validators and built-in names, which it
 //! re-exports.
 #![tactic(auto)]

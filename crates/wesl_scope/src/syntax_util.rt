@@ -4,14 +4,14 @@ ghost use Rattle.std.specs.List.{Contains};
 ghost use Rattle.wesl_tree_names.specs.declared.errors.Error as error;
 ghost use Rattle.wesl_tree_syntax.specs.Unit.{UnitView, numbers, spelled};
 ghost use Rattle.wesl_scope_occurrences.specs.Occurrences.{occurrences};
-ghost use Rattle.wesl_scope_clash.specs.Nodes.{HasSameNodes};
+ghost use Rattle.wesl_scope_numbers.specs.Nodes.{HasSameNodes};
 ghost use Rattle.wesl_scope.specs.EntryPoints.{entry_points_of};
 ghost use Rattle.wesl_tree_syntax.specs.Numbers.{AreNumbers};
 ghost use Rattle.wesl_scope_meanings.specs.Scopes.{keys};
 
 use crate::entry_points::entry_point;
 use std::alloc::Global;
-use wesl_scope_clash::{numbers_by_meaning, renumber};
+use wesl_scope_numbers::{numbers_by_meaning, renumber};
 use wesl_tree::{Error, Ident, TranslationUnit};
 
 /// What is asked of a module's tree, and done to it.

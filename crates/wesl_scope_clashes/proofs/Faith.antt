@@ -9,8 +9,8 @@ use Rattle.std.proofs.lemmas.Slice.Eq.{bytes_eq-Decides}
 use Rattle.wesl_tree_names.specs.Path.{Text}
 use Rattle.wesl_tree_syntax.specs.Unit.{UnitView, name_in, trees_of}
 use Rattle.wesl_scope_occurrences.specs.Occurrences.{Standing, module_name, parameter, local, reference, word, Occurrence, occurrences, is_binder, is_unqualified}
-use Rattle.wesl_scope_clash.specs.Faithful.{is_global, name_of, binders_of, AgreeOn, ReadRight, IsFaithful}
-use Rattle.wesl_scope_clash.specs.Test.{has_number}
+use Rattle.wesl_scope_numbers.specs.Faithful.{is_global, name_of, binders_of, AgreeOn, ReadRight, IsFaithful}
+use Rattle.wesl_scope_numbers.specs.Test.{has_number}
 use Rattle.wesl_scope_clashes.specs.declared.clash.Reading.{Reading}
 use Rattle.wesl_scope_clashes.specs.declared.clash.Reading.TheVariants.{Unbound}
 use Rattle.wesl_scope_clashes.specs.Clashes.{has_other, read_among, is_rival, misreading, clash_at, clashes}

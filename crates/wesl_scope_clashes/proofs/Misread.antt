@@ -19,9 +19,9 @@ use Rattle.wesl_scope_meanings.specs.Scopes.{Key, bound, free, is_visible, binds
 use Rattle.wesl_scope_meanings.specs.Keys.{named}
 use Rattle.wesl_scope_meanings.proofs.Entries.{one_test, keys_decide}
 use Rattle.wesl_scope_meanings.proofs.Scoping.{same_way}
-use Rattle.wesl_scope_clash.specs.Faithful.{binders_of}
-use Rattle.wesl_scope_clash.specs.Test.{is_named, has_number}
-use Rattle.wesl_scope_clash.proofs.Picked.{Picked, none, some, picked}
+use Rattle.wesl_scope_numbers.specs.Faithful.{binders_of}
+use Rattle.wesl_scope_numbers.specs.Test.{is_named, has_number}
+use Rattle.wesl_scope_numbers.proofs.Picked.{Picked, none, some, picked}
 use Rattle.wesl_scope_clashes.specs.declared.clash.Binder.{Binder}
 use Rattle.wesl_scope_clashes.specs.declared.clash.Reading.TheVariants.{Captured, Duplicate}
 use Rattle.wesl_scope_clashes.specs.declared.clash.Clash.{Clash}

@@ -5,8 +5,8 @@ use Rattle.std.specs.Option.{option_map}
 use Rattle.wesl_tree_names.specs.Path.{Text}
 use Rattle.wesl_tree_syntax.specs.Unit.{UnitView, trees_of}
 use Rattle.wesl_scope_occurrences.specs.Occurrences.{OccurrenceIn, Occurrence, occurrences, is_unqualified}
-use Rattle.wesl_scope_clash.specs.Faithful.{is_global, name_of, binders_of}
-use Rattle.wesl_scope_clash.specs.Test.{is_named, has_number}
+use Rattle.wesl_scope_numbers.specs.Faithful.{is_global, name_of, binders_of}
+use Rattle.wesl_scope_numbers.specs.Test.{is_named, has_number}
 use Rattle.wesl_scope_clashes.specs.declared.clash.Binder.{Binder}
 use Rattle.wesl_scope_clashes.specs.declared.clash.Reading.{Reading}
 use Rattle.wesl_scope_clashes.specs.declared.clash.Reading.TheVariants.{Captured, Unbound, Duplicate}

@@ -7,7 +7,7 @@ use Rattle.wesl_scope_occurrences.specs.Views.{occurrence_view}
 use Rattle.wesl_scope_occurrences.specs.Walk.{Found}
 use Rattle.wesl_scope_occurrences.specs.declared.occurrence.Occurrence.{Occurrence}
 use Rattle.wesl_scope_strip.specs.Marks.{mark_at}
-use Rattle.wesl_scope_clash.specs.Test.{has_number}
+use Rattle.wesl_scope_numbers.specs.Test.{has_number}
 use Rattle.wesl_scope_clashes.specs.Clashes.{ClashOf, clash_view}
 use Rattle.wesl_scope_clashes.specs.Sightings.{first_of, groups_view, first_in, if_met, is_seen, is_declared, one_met, first_met}
 use Rattle.wesl_scope_clashes.specs.ByMeaning.{Look, clash_by, clashes_by}

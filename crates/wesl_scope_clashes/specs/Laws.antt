@@ -1,7 +1,7 @@
 -- Laws of the definitions, as functions of the crate cite them.
 use Rattle.std.specs.Prelude.{◌≡◌, ◌↔◌, []}
 use Rattle.wesl_tree_syntax.specs.Unit.{UnitView}
-use Rattle.wesl_scope_clash.specs.Faithful.{IsFaithful}
+use Rattle.wesl_scope_numbers.specs.Faithful.{IsFaithful}
 use Rattle.wesl_scope_clashes.specs.Clashes.{clashes}
 
 -- nothing clashes exactly where the names mean what the numbers say

@@ -2,7 +2,7 @@
 ghost use Rattle.std.specs.Prelude.{◌≡◌, ◌<◌, ◌==◌, ℕ, false, map, replicate, IfOk};
 ghost use Rattle.wesl_scope_occurrences.specs.Views.{occurrence_view};
 ghost use Rattle.wesl_scope_strip.specs.Marks.{mark_at};
-ghost use Rattle.wesl_scope_clash.specs.Test.{has_number};
+ghost use Rattle.wesl_scope_numbers.specs.Test.{has_number};
 ghost use Rattle.wesl_scope_clashes.specs.Finding.{AreMarked, has_binder};
 
 use std::alloc::{AllocError, Global};

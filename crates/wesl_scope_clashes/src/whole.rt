@@ -4,7 +4,7 @@ ghost use Rattle.std.specs.List.{All};
 ghost use Rattle.wesl_tree_names.specs.declared.errors.Error as error;
 ghost use Rattle.wesl_tree.specs.Translation.{unit_view};
 ghost use Rattle.wesl_scope_occurrences.specs.Views.{occurrence_view};
-ghost use Rattle.wesl_scope_clash.specs.Faithful.{IsFaithful};
+ghost use Rattle.wesl_scope_numbers.specs.Faithful.{IsFaithful};
 ghost use Rattle.wesl_scope_clashes.specs.Clashes.{clash_view, clashes};
 ghost use Rattle.wesl_scope_clashes.specs.Finding.{told_with, by_tables, by_identifiers};
 
@@ -14,7 +14,7 @@ use crate::clash::Clash;
 use crate::laws::law_of_clashes;
 use crate::reading::clash;
 use std::alloc::{AllocError, Global};
-use wesl_scope_clash::numbers_by_meaning;
+use wesl_scope_numbers::numbers_by_meaning;
 use wesl_scope_occurrences::{Occurrence, law_of_occurrences, law_of_ways, occurrences};
 use wesl_tree::{Error, Names, TranslationUnit};
 

@@ -2,7 +2,7 @@
 ghost use Rattle.std.specs.Prelude.{◌≡◌, ◌↔◌, false, IfOk, IfErr};
 ghost use Rattle.wesl_tree_names.specs.Path.{path_view, is_relative};
 ghost use Rattle.wesl_tree.specs.Translation.{unit_view};
-ghost use Rattle.wesl_scope_clash.specs.Faithful.{IsFaithful};
+ghost use Rattle.wesl_scope_numbers.specs.Faithful.{IsFaithful};
 ghost use Rattle.wesl_link.specs.Keeping.{resolved};
 ghost use Rattle.wesl_link_engine.specs.Asking.{AnswersTheSame};
 ghost use Rattle.wesl_text_linked.specs.Linked.{IsLinkedUnit, IsNamedUnit, IsValidFor, RefusesNamed, RefusesUnit};

@@ -11,7 +11,7 @@ use Rattle.wesl_tree_names.specs.Path.{Text}
 use Rattle.wesl_link_assembly.proofs.Renumbered.{nodes_leafy}
 use Rattle.wesl_link_assembly.proofs.Whole.{linked_as}
 use Rattle.wesl_link_assembly.proofs.unit.linked_unit.Goals as goal
-use Rattle.wesl_scope_clash.proofs.Canonical.{mapped_length}
+use Rattle.wesl_scope_numbers.proofs.Canonical.{mapped_length}
 
 pub returns-clause-linked : goal.returns-clause-linked
 returns-clause-linked g c =

@@ -2,7 +2,7 @@ use Rattle.std.proofs.Common.{arith}
 use Rattle.wesl_scope_occurrences.specs.Views.{occurrence_view}
 use Rattle.wesl_scope_strip.specs.Marks.{mark_at}
 use Rattle.wesl_scope_strip.proofs.Marking.{marked_next, marked_all}
-use Rattle.wesl_scope_clash.specs.Test.{has_number}
+use Rattle.wesl_scope_numbers.specs.Test.{has_number}
 use Rattle.wesl_scope_clashes.proofs.bound.mark_binders.Goals as goal
 
 pub loop-occurrence-preserved : goal.loop-occurrence-preserved

@@ -2,7 +2,7 @@ use Rattle.std.proofs.Common.{◌≡◌, ℕ, ◌<◌, ◌||◌, length, map, dr
 use Rattle.std.specs.List.{list_any}
 use Rattle.wesl_scope_occurrences.specs.Views.{occurrence_view}
 use Rattle.wesl_scope_strip.specs.Marks.{mark_at}
-use Rattle.wesl_scope_clash.specs.Test.{has_number}
+use Rattle.wesl_scope_numbers.specs.Test.{has_number}
 use Rattle.wesl_scope_clashes.proofs.bound.mark_binders.Given as goal
 
 abbrev pub invariant-loop-occurrence : goal.invariant-loop-occurrence

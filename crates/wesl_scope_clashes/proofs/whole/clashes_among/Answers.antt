@@ -4,7 +4,7 @@ use Rattle.std.specs.List.{list_any}
 use Rattle.wesl_scope_occurrences.specs.Views.{occurrence_view}
 use Rattle.wesl_scope_occurrences.specs.Walk.{Found}
 use Rattle.wesl_scope_strip.specs.Marks.{mark_at}
-use Rattle.wesl_scope_clash.specs.Test.{has_number}
+use Rattle.wesl_scope_numbers.specs.Test.{has_number}
 use Rattle.wesl_scope_clashes.specs.Sightings.{groups_view, first_in, first_met, is_seen, is_declared}
 use Rattle.wesl_scope_clashes.proofs.Steps.{same_clashes}
 use Rattle.wesl_scope_clashes.proofs.Misread.{all_viewed}

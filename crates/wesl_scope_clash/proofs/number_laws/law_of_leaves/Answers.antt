@@ -1,5 +1,0 @@
-use Rattle.wesl_scope_clash.proofs.Leaves.{have_leaves}
-use Rattle.wesl_scope_clash.proofs.number_laws.law_of_leaves.Goals as goal
-
-pub returns : goal.returns
-returns c = have_leaves
