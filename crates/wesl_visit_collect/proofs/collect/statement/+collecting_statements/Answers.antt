@@ -8,7 +8,7 @@ use Rattle.wesl_visit_collect.proofs.Adds.{beside, entered, hollow, inside, pass
 use Rattle.wesl_visit_collect.proofs.Seen.{seen_statement}
 use Rattle.wesl_visit_collect.proofs.Statements.{view_Assignment}
 use Rattle.wesl_visit_collect.proofs.collect.statement.+collecting_statements.Goals as goal
-use Rattle.wesl_tree_syntax.proofs.Views.{view_block, view_call_statement, view_clause, view_compound, view_const_assert, view_continuing, view_else, view_else_if, view_for, view_if_clause, view_local, view_loop, view_return, view_switch, view_void, view_while}
+use Rattle.wesl_tree_syntax.proofs.Views.{view_block, view_call_statement, view_clause, view_compound, view_const_assert, view_continuing, view_else, view_else_if, view_for, view_if, view_if_clause, view_local, view_loop, view_return, view_switch, view_void, view_while}
 
 pub in_statement-returns-in-Void : goal.in_statement-returns-in-Void
 in_statement-returns-in-Void g t c =
@@ -24,7 +24,7 @@ in_statement-returns-in-Assignment g t c =
 
 pub in_statement-returns-in-If : goal.in_statement-returns-in-If
 in_statement-returns-in-If g t c =
-    viewed (ap statement_view c.in-If.is ∙ view_if_clause c.in-If.attributes c.in-If.if_clause c.in-If.else_if_clauses c.in-If.else_clause) (inside (kind if_statement) refl (λ f. refl) (beside c.at_attributes-in-If.ensures (beside (viewed (view_if_clause c.in-If.if_clause) (inside (kind if_clause) refl (λ f. refl) (beside c.at_expression-in-If.ensures c.in_compound-in-If.ensures))) (beside (inside (kind list) refl (λ f. refl) c.in_else_ifs.ensures) c.in_optional_else.ensures))))
+    viewed (ap statement_view c.in-If.is ∙ view_if c.in-If.attributes c.in-If.if_clause c.in-If.else_if_clauses c.in-If.else_clause) (inside (kind if_statement) refl (λ f. refl) (beside c.at_attributes-in-If.ensures (beside (viewed (view_if_clause c.in-If.if_clause) (inside (kind if_clause) refl (λ f. refl) (beside c.at_expression-in-If.ensures c.in_compound-in-If.ensures))) (beside (inside (kind list) refl (λ f. refl) c.in_else_ifs.ensures) c.in_optional_else.ensures))))
 
 pub in_statement-returns-in-Switch : goal.in_statement-returns-in-Switch
 in_statement-returns-in-Switch g t c =
