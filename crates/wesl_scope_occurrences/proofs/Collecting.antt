@@ -12,7 +12,7 @@ use Rattle.wesl_scope_occurrences.specs.Events.{of_none as of_none_part}
 use Rattle.wesl_scope_occurrences.specs.Collected.{Collected, nothing, naming_with, last_ended, collecting, collected}
 use Rattle.wesl_tree_syntax.specs.Unit.{UnitOf, forest_of_unit}
 use Rattle.wesl_scope_occurrences.specs.Ways.{told, way}
-use Rattle.wesl_scope_occurrences.proofs.Joined.{whole_joined}
+use Rattle.wesl_scope_occurrences.proofs.Joined.{whole_joined, none_named}
 use Rattle.wesl_scope_occurrences.proofs.Outers.{few_length, opened_few, opening_outers, outers_many, walk_outers}
 
 pub collected_append : (c : Collected) (es fs : List Event) → collected c (es ++ fs) ≡ collected (collected c es) fs
@@ -131,11 +131,6 @@ binder_naming : (d : Declares) (here : Here) (x p : ℕ) (old : List ℕ) → Na
 binder_naming globally here x p old = a_none refl refl
 binder_naming a_parameter here x p old = a_none refl refl
 binder_naming a_value here x p old = value_naming here.is_local p old
-
-pub none_named : (d : Declares) (l : Label) (old : List ℕ) (p : ℕ) → named_by l old p ≡ old → named_after d l old p ≡ old
-none_named globally l old p e = refl
-none_named a_parameter l old p e = refl
-none_named a_value l old p e = e
 
 naming : (r : Role) (x : ℕ) (node : Node ℕ) (p : ℕ) (old : List ℕ) → Naming (standing r node 0) p old (named_after node.declares (ident r x) old p)
 naming binder x node p old = binder_naming node.declares (here_in node) x p old

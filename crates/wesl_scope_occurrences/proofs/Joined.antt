@@ -12,7 +12,6 @@ use Rattle.std.specs.List.{All}
 use Rattle.wesl_scope_occurrences.specs.Views.{occurrence_view}
 use Rattle.wesl_scope_occurrences.specs.declared.occurrence.Occurrence as found
 use Rattle.wesl_scope_occurrences.specs.Ways.{AreNested, grown, way, told}
-use Rattle.wesl_scope_occurrences.proofs.Collecting.{none_named}
 
 abbrev pub Each : {X : Type 0} → (X → Type 0) → List X → Type 0
 Each P [] = Unit {0}
@@ -576,6 +575,11 @@ module _ (sh : Shape) (fs : Fields) (s : State) (so : Sound s) (nw : NodeWithin 
       Each-weaker (λ p. p < length s.found) (λ p. p < length s1.found) (λ p l. omega (arith, l, a.counted, ap length op.found)) fs.named nm
 
 -- a tree that is no identifier declares no name
+pub none_named : (d : Declares) (l : Label) (old : List ℕ) (p : ℕ) → named_by l old p ≡ old → named_after d l old p ≡ old
+none_named globally l old p e = refl
+none_named a_parameter l old p e = refl
+none_named a_value l old p e = e
+
 same_named : (fs : Fields) (l : Label) (others : Forest) (s s1 : State) → named_by l fs.named (length s.found) ≡ fs.named → (f : Forest) → Joined fs s f (walk (passed fs) s1 others) → Joined fs s f (walk (stepped fs l (length s.found)) s1 others)
 same_named fs l others s s1 e f j =
     subst (λ ps. Joined fs s f (walk (record { node = after_field fs.node; named = ps }) s1 others)) (sym (none_named fs.node.declares l fs.named (length s.found) e)) j

@@ -32,7 +32,7 @@ use Rattle.wesl_text_read.specs.Levels.{bare_at, component_of, deeper, enclosed_
 use Rattle.wesl_text_read.specs.Parts.{ReadsRow, commas_at, list_at, may_at, row_at, template_at}
 use Rattle.wesl_text_read.proofs.Deep.{levels_spelled}
 use Rattle.wesl_text_read.proofs.Leading.{built, next, nothing_there, seen, stay, under}
-use Rattle.wesl_text_read.proofs.Levels.{after-one, bare-operand, one-level, prefixed-operand, then-one}
+use Rattle.wesl_text_read.proofs.Levels.{after-closed, after-one, bare-operand, one-level, prefixed-operand, then-one}
 use Rattle.wesl_text_read.proofs.Paths.{sign-is}
 use Rattle.wesl_text_read.proofs.Trees.{placed-tree}
 use Rattle.wesl_text_read.proofs.Types.{a_template, argument-read, argument_list, behind_path, call-read, call_of, enclosed-read, false-read, number-read, true-read, type-read, type_with, word-read, worded}
@@ -145,10 +145,6 @@ component_read {s} {m} {n} {e} base made made_node x skip read builds same =
     (placed_node (branch named_component (expression_tree base ∷ leaf (text x) ∷ [])) made_node made
     (next (behind (λ ns us. F ns (read_leaf a_name us)) skip) (under F (λ ns. refl) read))
     builds same)
-
-pub after-closed : {A B C : Type 0} (r : Read A) (f : A → B) (g : List Token → Option (List Token)) (k : B → List Token → Read C) → after r (λ x us. option_and_then (λ vs. k (f x) vs) (g us)) ≡ after (after r (λ x us. option_and_then (λ vs. Some (f x, vs)) (g us))) k
-after-closed None f g k = refl
-after-closed (Some x) f g k = then-one (g x.1) (f x.0) k
 
 pub indexing_read : {s m n k e : Reader} (base index made : Spanned Expression) (made_node : Expression)
     → Skips (λ ts. Some (behind_first ts)) s m → Reads (at_level m.levels any an_expression) (expression_tree index) m n → Skips (behind_token (symbol is.BracketRight)) n k

@@ -14,7 +14,6 @@ use Rattle.wesl_text_reading.specs.FirstTokens.{behind_first, unary_first}
 use Rattle.wesl_text_reading.specs.Leaves.{Read, after, read_leaf}
 use Rattle.wesl_text_reading.specs.Reading.{any, at_level, begins_post, class_in, expression, next_operator, node_of, within_levels}
 use Rattle.wesl_text_read.specs.Levels.{bare_at, deeper, operand_at, operation_at, operations_at, post_at, posts_at, prefixed_at}
-use Rattle.wesl_text_read.proofs.Expressions.{after-closed}
 
 pub after-one : {A B C : Type 0} (r : Read A) (f : A → B) (k : B → List Token → Read C) → after r (λ x us. k (f x) us) ≡ after (after r (λ x us. Some (f x, us))) k
 after-one None f k = refl
@@ -23,6 +22,10 @@ after-one (Some x) f k = refl
 pub then-one : {B C : Type 0} (o : Option (List Token)) (x : B) (k : B → List Token → Read C) → option_and_then (λ vs. k x vs) o ≡ after (option_and_then (λ vs. Some (x, vs)) o) k
 then-one None x k = refl
 then-one (Some vs) x k = refl
+
+pub after-closed : {A B C : Type 0} (r : Read A) (f : A → B) (g : List Token → Option (List Token)) (k : B → List Token → Read C) → after r (λ x us. option_and_then (λ vs. k (f x) vs) (g us)) ≡ after (after r (λ x us. option_and_then (λ vs. Some (f x, vs)) (g us))) k
+after-closed None f g k = refl
+after-closed (Some x) f g k = then-one (g x.1) (f x.0) k
 
 -- ---- levels
 
