@@ -90,6 +90,10 @@ pub record AreClosers (g : Graph) (nodes : List ℕ) (taken : List Bool) (closer
   pub first : (n : ℕ) → IsFirst (IsRing g n) nodes (value_at closers n)
   pub among : (m : ℕ) → mark_at taken m ≡ true → Contains nodes m
 
+-- these are taken and kept of one node more than those were of any nodes before it
+abbrev pub AreClosersNext : Graph → ℕ → List Bool → List Bool → List (Option ℕ) → List (Option ℕ) → Type 0
+AreClosersNext g last taken taken_now closers now = (nodes : List ℕ) → AreClosers g nodes taken closers → AreClosers g (nodes ++ last ∷ []) taken_now now
+
 -- of these nodes those that reach themselves
 abbrev pub AreRings : List Text → Graph → List ℕ → List ℕ → List spec.Finding → Type 0
 AreRings names g declared [] fs = fs ≡ []

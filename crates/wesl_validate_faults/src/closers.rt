@@ -1,5 +1,5 @@
 //! For each declaration the first that leads back to it.
-ghost use Rattle.std.specs.Prelude.{◌≡◌, ◌++◌, ◌∷◌, ℕ, true, List, [], if◌then◌else◌, IfOk};
+ghost use Rattle.std.specs.Prelude.{◌≡◌, ◌++◌, ◌∷◌, ℕ, true, List, [], if◌then◌else◌, IfOk, OnOk};
 ghost use Rattle.std.specs.List.{filter};
 ghost use Rattle.std.proofs.Common.{set};
 ghost use Rattle.wesl_scope_graph.specs.Graphs.{graph_view, edges_at, IsClosed};
@@ -7,7 +7,7 @@ ghost use Rattle.wesl_scope_graph.specs.Marks.{mark_at};
 ghost use Rattle.wesl_scope_values.specs.Values.{value_at};
 ghost use Rattle.wesl_scope_groups.specs.Groups.{AreGroups};
 ghost use Rattle.wesl_validate_rules.specs.Graphs.{IsRing};
-ghost use Rattle.wesl_validate_faults.specs.Gathered.{have_one_group, AreClosers};
+ghost use Rattle.wesl_validate_faults.specs.Gathered.{have_one_group, AreClosersNext};
 ghost use Rattle.wesl_validate_faults.specs.Listed.{IsFirst};
 
 use std::alloc::{AllocError, Global};
@@ -98,7 +98,7 @@ fn note_closer(
 ) -> Result<(), AllocError>
     requires closed { IsClosed (graph_view graph.now.items) }
     requires groups { AreGroups (graph_view graph.now.items) groups.now.items }
-    ensures { IfOk result (λ _. (nodes : List ℕ) → AreClosers (graph_view graph.now.items) nodes taken.old.items closers.old.items → AreClosers (graph_view graph.now.items) (nodes ++ last ∷ []) taken.new.items closers.new.items) }
+    ensures { OnOk result (AreClosersNext (graph_view graph.now.items) last taken.old.items taken.new.items closers.old.items closers.new.items) }
 {
     if replace_mark(taken, last) {
         return Ok(());
