@@ -6,7 +6,6 @@ pub mod Replaced
 mod Shortened
 mod Whole
 mod Denoted
-mod Units
 mod Retold
 pub mod SideBySide
 mod Thinned

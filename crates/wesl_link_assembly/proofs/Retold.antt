@@ -11,7 +11,7 @@ use Rattle.wesl_link_assembly.specs.Pathless.{without_paths}
 use Rattle.wesl_link_assembly.specs.Linked.{shape, printed_unit, IsLinkedAs}
 use Rattle.wesl_link_assembly.proofs.Pathless.{respelled_without}
 use Rattle.wesl_link_assembly.proofs.Replaced.{replaced_twice}
-use Rattle.wesl_link_assembly.proofs.Units.{one_unit}
+use Rattle.wesl_scope_numbers.proofs.Taken.{one_unit}
 use Rattle.wesl_link_assembly.proofs.Renumbered.{paired}
 use Rattle.wesl_scope_numbers.proofs.Canonical.{mapped_length}
 

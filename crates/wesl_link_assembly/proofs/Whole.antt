@@ -10,13 +10,12 @@ use Rattle.wesl_tree_copies.specs.Renumbered.{renumbered}
 use Rattle.wesl_tree_renumber.specs.Renumbers.{Renumbered as NumberedTree}
 use Rattle.wesl_tree_renumber.specs.declared.renumbering.Renumbering.{Renumbering}
 use Rattle.wesl_scope_numbers.specs.Leaves.{are_leaves}
-use Rattle.wesl_scope_numbers.proofs.Taken.{numbers_are, taken}
+use Rattle.wesl_scope_numbers.proofs.Taken.{numbers_are, one_unit, taken}
 use Rattle.wesl_scope_numbers.proofs.Units.{each_below, parts_below}
 use Rattle.wesl_link_assembly.specs.Pathless.{without_paths}
 use Rattle.wesl_link_assembly.specs.Linked.{printed_unit, IsLinkedAs}
 use Rattle.wesl_link_assembly.proofs.Pathless.{same_identifiers, respelled_without}
 use Rattle.wesl_link_assembly.proofs.Replaced.{replaced_twice, identifiers_replaced}
-use Rattle.wesl_link_assembly.proofs.Units.{one_unit}
 use Rattle.wesl_link_assembly.proofs.Renumbered.{same_shape}
 use Rattle.wesl_link_assembly.proofs.Numbering.{Numbered, at_number}
 use Rattle.wesl_scope_numbers.proofs.Canonical.{mapped_length}
