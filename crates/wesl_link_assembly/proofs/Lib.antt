@@ -1,5 +1,5 @@
 mod Pathless
-mod Renumbered
+pub mod Renumbered
 mod Numbering
 mod Given
 pub mod Replaced
