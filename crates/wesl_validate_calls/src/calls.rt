@@ -24,7 +24,7 @@ pub(crate) struct Call {
 }
 
 /// The call, if it is one of a name without a path.
-#[tactic(auto, using(crate::proofs::Shaping::listed_count))]
+#[tactic(auto, using(wesl_scope_strip::proofs::Keeping::trees_count))]
 fn plain_call(call: &FunctionCall) -> Option<Call>
     ensures { one_told result ≡ call_by (call_view call.now).children }
 {

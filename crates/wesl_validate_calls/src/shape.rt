@@ -38,7 +38,7 @@ fn alias_shape(ty: &TypeExpression) -> Shape
     }
 }
 
-#[tactic(auto, using(crate::proofs::Shaping::listed_count))]
+#[tactic(auto, using(wesl_scope_strip::proofs::Keeping::trees_count))]
 fn shape_of(declaration: &GlobalDeclaration) -> Shape
     ensures { shape_view result ≡ shape_in (before (global_view declaration.now) end) }
 {
