@@ -1,5 +1,5 @@
 -- Formulas that can be printed: what answers leave of one can be printed, and holds together as tightly.
-use Rattle.std.proofs.Common.{◌≡◌, ◌⊎◌, Bool, true, false, ◌&&◌, if◌then◌else◌, List, [], ◌∷◌, ◌++◌, Some, None, refl, inl, inr, ap, ap₂, ◌∙◌, append-nil, codes}
+use Rattle.std.proofs.Common.{◌≡◌, ◌⊎◌, Bool, true, ◌&&◌, if◌then◌else◌, List, [], ◌∷◌, ◌++◌, Some, None, refl, inl, inr, ap, ap₂, ◌∙◌, append-nil, codes}
 use Rattle.wesl_tree_base.specs.declared.span.Span.{Span}
 use Rattle.wesl_tree_names.specs.Path.{Text}
 use Rattle.wesl_tree_syntax.specs.Tree.{TreeOf, kind, at, end, tree, expression_node, type_or_identifier}
@@ -48,10 +48,10 @@ Fine (other l c) = ⊥
 -- ---- the slots
 
 -- an expression with its span
-abbrev spanned : Span → TreeOf Text → Slots
+abbrev pub spanned : Span → TreeOf Text → Slots
 spanned p t = first_slots (at expression_node p.start p.end) (tree t.label t.children end) (spells (tree t.label t.children end)) an_expression
 
-spanned_is : (p : Span) (t : TreeOf Text) (ss : List Slot) → IsNowhere p → slots_as a_bare_expression t ≡ Some ss → spanned p t ≡ Some ss
+pub spanned_is : (p : Span) (t : TreeOf Text) (ss : List Slot) → IsNowhere p → slots_as a_bare_expression t ≡ Some ss → spanned p t ≡ Some ss
 spanned_is p t ss n e =
     ap₂ (λ a b. first_slots (at expression_node a b) (tree t.label t.children end) (spells (tree t.label t.children end)) an_expression) n.0 n.1
     ∙ (ap (λ z. followed z (Some [])) e ∙ ap (λ z. Some z) (append-nil ss))

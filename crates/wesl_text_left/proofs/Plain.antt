@@ -15,7 +15,7 @@ use Rattle.wesl_text_writable.proofs.KnownApart.{known_apart}
 use Rattle.wesl_text_writable.proofs.MadeApart.{AllBracketed, AreMeant}
 use Rattle.std.proofs.lemmas.Bool.{and_parts}
 
--- the tokens of formulas
+-- the tokens of formulas, and of conditions
 abbrev pub is_plain : Token → Bool
 is_plain (name t) = true
 is_plain (symbol is.ColonColon) = true
@@ -24,12 +24,13 @@ is_plain (symbol is.AndAnd) = true
 is_plain (symbol is.OrOr) = true
 is_plain (symbol is.ParenLeft) = true
 is_plain (symbol is.ParenRight) = true
+is_plain (symbol is.At) = true
 is_plain t = false
 
 abbrev pub are_plain : List Slot → Bool
 are_plain [] = true
 are_plain (must t ∷ ss) = is_plain t && are_plain ss
-are_plain (may t ∷ ss) = false
+are_plain (may t ∷ ss) = are_plain ss
 are_plain (alone ∷ ss) = false
 
 pub plain_joined : (ss us : List Slot) → are_plain ss ≡ true → are_plain us ≡ true → are_plain (ss ++ us) ≡ true
@@ -37,7 +38,7 @@ plain_joined [] us h g = g
 plain_joined (must t ∷ ss) us h g =
     let x : (is_plain t ≡ true) × (are_plain ss ≡ true) = and_parts (is_plain t) (are_plain ss) h in
     ap (λ z. z && are_plain (ss ++ us)) x.0 ∙ plain_joined ss us x.1 g
-plain_joined (may t ∷ ss) us h g = absurd (no_true h)
+plain_joined (may t ∷ ss) us h g = plain_joined ss us h g
 plain_joined (alone ∷ ss) us h g = absurd (no_true h)
 
 abbrev all_plain : List Token → Bool
@@ -49,7 +50,7 @@ plain_fewest [] h = refl
 plain_fewest (must t ∷ ss) h =
     let x : (is_plain t ≡ true) × (are_plain ss ≡ true) = and_parts (is_plain t) (are_plain ss) h in
     ap (λ z. z && all_plain (fewest ss)) x.0 ∙ plain_fewest ss x.1
-plain_fewest (may t ∷ ss) h = absurd (no_true h)
+plain_fewest (may t ∷ ss) h = plain_fewest ss h
 plain_fewest (alone ∷ ss) h = absurd (no_true h)
 
 -- nothing is pending, and no bracket is found
@@ -62,6 +63,7 @@ outside_none k h = ap (outside k.depth) h.0
 bare_step : (t : Token) (i : ℕ) (k : Known) → is_plain t ≡ true → Bare k → Bare (known_from i k (token_bits t))
 bare_step (name t) i k p h = either_is Bare k.is_passed (record k { is_passed = false; behind_name = false }) (record k { behind_name = true }) h h
 bare_step (symbol is.ColonColon) i k p h = either_is Bare k.is_passed (record k { is_passed = false; behind_name = false }) (record k { behind_name = false }) h h
+bare_step (symbol is.At) i k p h = either_is Bare k.is_passed (record k { is_passed = false; behind_name = false }) (record k { behind_name = false }) h h
 bare_step (symbol is.Bang) i k p h = either_is Bare k.is_passed (record k { is_passed = false; behind_name = false }) (record k { behind_name = false }) h h
 bare_step (symbol is.AndAnd) i k p h =
     either_is Bare k.is_passed (record k { is_passed = false; behind_name = false }) (record k { behind_name = false; pending = outside k.depth k.pending }) h (outside_none k h, h.1, h.2)

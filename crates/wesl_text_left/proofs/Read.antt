@@ -26,7 +26,7 @@ use Rattle.wesl_text_respell.proofs.Units.{where_there}
 
 -- ---- slots that are there
 
-both_there : (a b : Slots) → is_some (followed a b) ≡ true → (is_some a ≡ true) × (is_some b ≡ true)
+pub both_there : (a b : Slots) → is_some (followed a b) ≡ true → (is_some a ≡ true) × (is_some b ≡ true)
 both_there None b h = absurd (no_true h)
 both_there (Some ss) None h = absurd (no_true h)
 both_there (Some ss) (Some us) h = (refl, refl)
@@ -54,7 +54,7 @@ where_provided true ss h = h
 where_provided false ss h = tt
 
 -- nothing stands behind the last
-no_more : (o : Forest) → is_some ((spells o).row nothing) ≡ true → o ≡ end
+pub no_more : (o : Forest) → is_some ((spells o).row nothing) ≡ true → o ≡ end
 no_more end h = refl
 no_more (tree l c o) h = absurd (no_true h)
 
@@ -154,7 +154,7 @@ type_there (tree l c o) n h = where_joined (first_slots l c (spells c) a_type) (
 -- ---- operands
 
 -- the first tree is an expression with its span, which can be printed, and so can what is behind it
-record Operand (c : Forest) (behind : Row) : Type 0 where
+pub record Operand (c : Forest) (behind : Row) : Type 0 where
   pub label : Label
   pub children : Forest
   pub others : Forest
@@ -178,13 +178,13 @@ node_is (at k zero (suc f)) d o row h g = absurd (no_true h)
 node_is (at k (suc a) f) d o row h g = absurd (no_true h)
 node_is l d o row h g = absurd (no_true h)
 
-operand : (c : Forest) (row : Row) → is_some ((spells c).row (own an_expression row)) ≡ true → Operand c row
+pub operand : (c : Forest) (row : Row) → is_some ((spells c).row (own an_expression row)) ≡ true → Operand c row
 operand end row h = absurd (no_true h)
 operand (tree m d o) row h =
     let x : (is_some (first_slots m d (spells d) an_expression) ≡ true) × (is_some ((spells o).row row) ≡ true) = both_there (first_slots m d (spells d) an_expression) ((spells o).row row) h in
     node_is m d o row x.0 x.1
 
-behind_sign : (s : Symbol) (c : Forest) (row : Row) → is_some ((spells c).row (sym s row)) ≡ true → is_some ((spells c).row row) ≡ true
+pub behind_sign : (s : Symbol) (c : Forest) (row : Row) → is_some ((spells c).row (sym s row)) ≡ true → is_some ((spells c).row row) ≡ true
 behind_sign s end row h = (both_there (Some (signed s ∷ [])) ((spells end).row row) h).1
 behind_sign s (tree l c o) row h = (both_there (Some (signed s ∷ [])) ((spells (tree l c o)).row row) h).1
 

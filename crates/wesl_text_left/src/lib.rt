@@ -3,4 +3,4 @@
 
 mod laws;
 
-pub use laws::law_of_left_formulas;
+pub use laws::{law_of_left_formulas, law_of_left_nodes};

@@ -26,10 +26,10 @@ module _ (final : Known) where
   held [] = 0
   held (p ∷ ps) = if is_one_of final.opened p.0 then suc (held ps) else held ps
 
-  -- the oldest does, and stands outside of parentheses
+  -- the oldest does
   abbrev pub Bottom : List (ℕ × ℕ) → Type 0
   Bottom [] = ⊥
-  Bottom (p ∷ []) = (p.1 ≡ 0) × (is_one_of final.opened p.0 ≡ true)
+  Bottom (p ∷ []) = is_one_of final.opened p.0 ≡ true
   Bottom (p ∷ q ∷ ps) = Bottom (q ∷ ps)
 
   -- so many lists are open within the outermost
@@ -81,7 +81,7 @@ module _ (final : Known) where
     dropped : is_one_of final.opened p.0 ≡ false → (held final (outside d ps) ≡ held final ps) × (Bottom final ps → Bottom final (outside d ps)) → Same (outside d ps)
     dropped e x = (x.0 ∙ turned (ap (λ z. if z then suc (held final ps) else held final ps) e), λ b. bottom ps b x.1) where
       bottom : (ps : List (ℕ × ℕ)) → Bottom final (p ∷ ps) → (Bottom final ps → Bottom final (outside d ps)) → Bottom final (outside d ps)
-      bottom [] b g = absurd (no_true (turned e ∙ b.1))
+      bottom [] b g = absurd (no_true (turned e ∙ b))
       bottom (q ∷ qs) b g = g b
 
     by : (z : Bool) → ((n : ℕ) → n < i → is_one_of os n ≡ false → is_one_of (numbers (if z then p ∷ ps else outside d ps)) n ≡ false → is_one_of final.opened n ≡ false)
@@ -93,7 +93,7 @@ module _ (final : Known) where
   -- the oldest
   bottom_opens : (os : List ℕ) (i : ℕ) (ps : List (ℕ × ℕ)) → Sorted os i ps → Bottom final ps → (m : ℕ) × (m < i) × (is_one_of os m ≡ false) × (is_one_of final.opened m ≡ true)
   bottom_opens os i [] s b = absurd b
-  bottom_opens os i (p ∷ []) s b = (p.0, s.0, s.1, b.1)
+  bottom_opens os i (p ∷ []) s b = (p.0, s.0, s.1, b)
   bottom_opens os i (p ∷ q ∷ ps) s b = let x : (m : ℕ) × (m < p.0) × (is_one_of os m ≡ false) × (is_one_of final.opened m ≡ true) = bottom_opens os p.0 (q ∷ ps) s.2 b in (x.0, omega (arith, x.1, s.0), x.2, x.3)
 
 -- ---- one piece that is no bracket

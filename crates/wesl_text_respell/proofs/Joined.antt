@@ -1,5 +1,5 @@
 -- Tokens behind others, behind which nothing is pending, are meant exactly where both are meant alone.
-use Rattle.std.proofs.Common.{◌≡◌, ◌≤◌, ◌<◌, ℕ, suc, false, List, [], ◌∷◌, ◌++◌, refl, sym as turned, ap, ◌∙◌, subst, arith}
+use Rattle.std.proofs.Common.{◌≡◌, ◌≤◌, ◌<◌, ℕ, suc, Bool, true, false, List, [], ◌∷◌, ◌++◌, refl, sym as turned, ap, ◌∙◌, subst, arith, append_assoc, append-nil}
 use Rattle.wesl_text_tokens.specs.Characters.{is_one_of}
 use Rattle.wesl_text_tokens.specs.Symbols.{symbol_text}
 use Rattle.wesl_text_tokens.specs.Pieces.{Bit}
@@ -12,8 +12,11 @@ use Rattle.wesl_text_writable.proofs.KnownApart.{before_joined, known_apart}
 use Rattle.wesl_text_writable.proofs.Quiet.{mark_first}
 use Rattle.wesl_text_writable.proofs.MadeApart.{AllBracketed, AreMeant}
 use Rattle.wesl_text_writable.proofs.LeftOut.{SameBrackets, behind_le, done_here, first_bracketed, names_forgotten, number_of, state, unmarked_first}
-use Rattle.wesl_text_respell.proofs.Inside.{leads_end}
-use Rattle.wesl_text_respell.proofs.Rests.{unknown, rests, rest_behind, Rests, leads_tokens, rests_behind}
+use Rattle.wesl_text_reading.proofs.Filled.{no_true}
+use Rattle.wesl_text_respell.proofs.Pending.{IsSorted}
+use Rattle.wesl_text_respell.proofs.Inside.{leads_end, bits_sorted}
+use Rattle.wesl_text_respell.proofs.Rests.{Rest, unknown, rests, rest_behind, Rests, Told, leads_tokens, told_behind}
+use Rattle.wesl_text_respell.proofs.Raised.{depth_forgotten}
 use Rattle.wesl_text_respell.proofs.Moved.{on, on_suc, on_zero, on_le, all_on, among_on, less_on, moved, known_moved}
 
 -- ---- what is known behind tokens
@@ -80,8 +83,8 @@ abbrev same : ℕ → ℕ
 same i = i
 
 -- what is known where nothing is pending
-known_is : (k : Known) → Rests k → k.is_passed ≡ false → k ≡ record { pending = []; depth = 0; behind_name = k.behind_name; is_passed = false; opened = k.opened; closed = k.closed }
-known_is k r h = ap (λ z. record k { pending = z }) r.0 ∙ (ap (λ z. record k { pending = []; depth = z }) r.1 ∙ ap (λ z. record k { pending = []; depth = 0; is_passed = z }) h)
+known_is : (k : Known) → Rests k → k.is_passed ≡ false → k ≡ record { pending = []; depth = k.depth; behind_name = k.behind_name; is_passed = false; opened = k.opened; closed = k.closed }
+known_is k r h = ap (λ z. record k { pending = z }) r ∙ ap (λ z. record k { pending = []; is_passed = z }) h
 
 module _ (ts us : List Token) (quiet : Rests (state 0 nothing_known ts)) (plain : mark_first us ≡ false) where
   abbrev here : ℕ
@@ -99,14 +102,19 @@ module _ (ts us : List Token) (quiet : Rests (state 0 nothing_known ts)) (plain 
   abbrev begun : Known
   begun = moved here now.opened now.closed nothing_known
 
-  whole_is : whole ≡ known_from here (record begun { behind_name = now.behind_name }) (bits_apart us)
+  whole_is : whole ≡ known_from here (record begun { behind_name = now.behind_name; depth = now.depth }) (bits_apart us)
   whole_is = known_state ts us 0 nothing_known ∙ ap (λ z. known_from here z (bits_apart us)) (known_is now quiet (done_here ts))
 
   begun_is : known_from here begun (bits_apart us) ≡ moved here now.opened now.closed others
   begun_is = ap (λ z. known_from z begun (bits_apart us)) (turned (on_zero here)) ∙ known_moved here now.opened now.closed (bits_apart us) 0 nothing_known
 
-  forgotten : SameBrackets (known_from here (record begun { behind_name = now.behind_name }) (bits_apart us)) (known_from here begun (bits_apart us))
-  forgotten = names_forgotten (bits_apart us) here begun now.behind_name refl (unmarked_first us plain)
+  -- neither how many parentheses are open nor whether a name came before is told where nothing is pending
+  forgotten : SameBrackets (known_from here (record begun { behind_name = now.behind_name; depth = now.depth }) (bits_apart us)) (known_from here begun (bits_apart us))
+  forgotten =
+      let x : SameBrackets (known_from here (record begun { behind_name = now.behind_name; depth = now.depth }) (bits_apart us)) (known_from here (record begun { behind_name = now.behind_name }) (bits_apart us))
+      = depth_forgotten (bits_apart us) here now.depth (record begun { behind_name = now.behind_name }) refl refl in
+      let y : SameBrackets (known_from here (record begun { behind_name = now.behind_name }) (bits_apart us)) (known_from here begun (bits_apart us)) = names_forgotten (bits_apart us) here begun now.behind_name refl (unmarked_first us plain) in
+      (x.0 ∙ y.0, x.1 ∙ y.1)
 
   opened_is : whole.opened ≡ all_on here others.opened ++ now.opened
   opened_is = ap (λ z. z.opened) whole_is ∙ (forgotten.0 ∙ ap (λ z. z.opened) begun_is)
@@ -140,18 +148,66 @@ module _ (ts us : List Token) (quiet : Rests (state 0 nothing_known ts)) (plain 
 
 -- ---- behind tokens that are meant nothing is pending
 
-rests_alone : (ts : List Token) → rest_behind unknown ts ≡ rests → AreMeant ts → Rests (state 0 nothing_known ts)
-rests_alone ts q a = rests_behind (state 0 nothing_known ts) ts q (subst (λ z. AllBracketed z 0 ts) (alone_state ts 0 nothing_known) a) (leads_end (state 0 nothing_known ts) (number_of 0 ts))
+-- nothing is pending behind tokens
+abbrev pub Settled : List Token → Type 0
+Settled ts = Rests (state 0 nothing_known ts)
 
-rests_before : (ts us : List Token) → rest_behind unknown ts ≡ rests → AreMeant (ts ++ us) → Rests (state 0 nothing_known ts)
-rests_before ts us q a =
-    let final : Known = state (number_of 0 ts) (state 0 nothing_known ts) us in
-    let is : brackets (bits_apart (ts ++ us)) ≡ final = known_state ts us 0 nothing_known ∙ alone_state us (number_of 0 ts) (state 0 nothing_known ts) in
-    rests_behind final ts q (first_bracketed final ts us 0 (subst (λ z. AllBracketed z 0 (ts ++ us)) is a))
-    (leads_tokens final us (number_of 0 ts) (state 0 nothing_known ts) (leads_end final (number_of (number_of 0 ts) us)))
+-- what is told where that is known, and where it is not
+abbrev pub begin : Bool → Rest
+begin true = rests
+begin false = unknown
+
+state_joined : (ts us : List Token) (i : ℕ) (k : Known) → state i k (ts ++ us) ≡ state (number_of i ts) (state i k ts) us
+state_joined [] us i k = refl
+state_joined (t ∷ ts) us i k = state_joined ts us (number_behind i (token_bits t)) (known_from i k (token_bits t))
+
+sorted_state : (ts : List Token) (i : ℕ) (k : Known) → Before i k → IsSorted i k → IsSorted (number_of i ts) (state i k ts)
+sorted_state [] i k b s = s
+sorted_state (t ∷ ts) i k b s = sorted_state ts (number_behind i (token_bits t)) (known_from i k (token_bits t)) (before_joined (token_bits t) i k b) (bits_sorted (token_bits t) i k b s)
+
+pub settles : (b : Bool) (ts xs us : List Token) → rest_behind (begin b) xs ≡ rests → (b ≡ true → Settled ts) → AreMeant (ts ++ (xs ++ us)) → Settled (ts ++ xs)
+settles b ts xs us q f a = subst Rests (turned (state_joined ts xs 0 nothing_known)) (subst (λ r. Told final r behind) q told) where
+  here : ℕ
+  here = number_of 0 ts
+
+  now : Known
+  now = state 0 nothing_known ts
+
+  behind : Known
+  behind = state here now xs
+
+  final : Known
+  final = state (number_of here xs) behind us
+
+  is : brackets (bits_apart (ts ++ (xs ++ us))) ≡ final
+  is = known_state ts (xs ++ us) 0 nothing_known ∙ (known_state xs us here now ∙ alone_state us (number_of here xs) behind)
+
+  bracketed : AllBracketed final here xs
+  bracketed = first_bracketed final xs us here (last_bracketed final ts (xs ++ us) 0 (subst (λ z. AllBracketed z 0 (ts ++ (xs ++ us))) is a))
+
+  fresh : Before 0 nothing_known
+  fresh n l = ((refl, refl), refl)
+
+  begun : (b : Bool) → (b ≡ true → Settled ts) → Told final (begin b) now
+  begun true f = f refl
+  begun false f = tt
+
+  told : Told final (rest_behind (begin b) xs) behind
+  told = told_behind final xs here now (begin b) (done_here ts) (before_state ts 0 nothing_known fresh) (sorted_state ts 0 nothing_known fresh tt) bracketed (leads_tokens final us (number_of here xs) behind (leads_end final (number_of (number_of here xs) us))) (begun b f)
+
+rests_alone : (ts : List Token) → rest_behind unknown ts ≡ rests → AreMeant ts → Settled ts
+rests_alone ts q a = settles false [] ts [] q (λ e. absurd (no_true e)) (subst AreMeant (turned (append-nil ts)) a)
 
 pub meant_joined : (ts us : List Token) → rest_behind unknown ts ≡ rests → mark_first us ≡ false → AreMeant ts → AreMeant us → AreMeant (ts ++ us)
 meant_joined ts us q m a b = join_meant ts us (rests_alone ts q a) m a b
 
 pub meant_apart : (ts us : List Token) → rest_behind unknown ts ≡ rests → mark_first us ≡ false → AreMeant (ts ++ us) → AreMeant ts × AreMeant us
-meant_apart ts us q m a = split_meant ts us (rests_before ts us q a) m a
+meant_apart ts us q m a = split_meant ts us (settles false [] ts us q (λ e. absurd (no_true e)) a) m a
+
+-- tokens in the place of others, where nothing is pending before and behind both
+pub replaced : (ts xs ys us : List Token) → Settled ts → Settled (ts ++ xs) → (AreMeant (ts ++ ys) → Settled (ts ++ ys)) → mark_first xs ≡ false → mark_first ys ≡ false → mark_first us ≡ false
+    → AreMeant ys → AreMeant (ts ++ (xs ++ us)) → AreMeant (ts ++ (ys ++ us))
+replaced ts xs ys us p q r m n l y a =
+    let x : AreMeant (ts ++ xs) × AreMeant us = split_meant (ts ++ xs) us q l (subst AreMeant (turned (append_assoc ts xs us)) a) in
+    let z : AreMeant (ts ++ ys) = join_meant ts ys p n (split_meant ts xs p m x.0).0 y in
+    subst AreMeant (append_assoc ts ys us) (join_meant (ts ++ ys) us (r z) l z x.1)

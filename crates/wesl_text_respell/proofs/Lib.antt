@@ -8,9 +8,12 @@ pub mod Meant
 pub mod Writable
 pub mod Pending
 pub mod Inside
-pub mod Rests
 pub mod Moved
+pub mod Raised
+pub mod Enclosed
+pub mod Rests
 pub mod Joined
 pub mod Lists
+pub mod Balanced
 pub mod Parts
 pub mod Units

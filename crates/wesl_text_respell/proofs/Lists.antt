@@ -36,7 +36,7 @@ rest_fewest (must t ∷ ss) r = rest_fewest ss (rest_step r t)
 rest_fewest (may t ∷ ss) r = rest_fewest ss r
 rest_fewest (alone ∷ ss) r = rest_fewest ss (rest_step r (name (codes "default")))
 
-slots_joined : (ss us : List Slot) (r : Rest) → rest_slots r (ss ++ us) ≡ rest_slots (rest_slots r ss) us
+pub slots_joined : (ss us : List Slot) (r : Rest) → rest_slots r (ss ++ us) ≡ rest_slots (rest_slots r ss) us
 slots_joined [] us r = refl
 slots_joined (must t ∷ ss) us r = slots_joined ss us (rest_step r t)
 slots_joined (may t ∷ ss) us r = slots_joined ss us r
@@ -75,7 +75,7 @@ comes_node r q s l c f = by (row_of s l) f where
 
 -- ---- leaves
 
-comes_provided : (r q : Rest) (b : Bool) (ss : List Slot) → rest_slots r ss ≡ q → Comes r (provided b ss) q
+pub comes_provided : (r q : Rest) (b : Bool) (ss : List Slot) → rest_slots r ss ≡ q → Comes r (provided b ss) q
 comes_provided r q true ss h = h
 comes_provided r q false ss h = tt
 

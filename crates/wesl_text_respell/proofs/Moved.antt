@@ -27,7 +27,7 @@ on_one : (n i j : ℕ) → on n i ≡ on n j → i ≡ j
 on_one zero i j h = h
 on_one (suc n) i j h = on_one n i j (omega (arith, h))
 
-same_on : (n i j : ℕ) → (on n i == on n j) ≡ (i == j)
+pub same_on : (n i j : ℕ) → (on n i == on n j) ≡ (i == j)
 same_on n i j = by (i == j) refl where
   by : (z : Bool) → (i == j) ≡ z → (on n i == on n j) ≡ (i == j)
   by true e = eq-eqb (on n i) (on n j) (ap (on n) (eqb-true i j e)) ∙ turned e

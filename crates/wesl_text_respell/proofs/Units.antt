@@ -25,7 +25,7 @@ use Rattle.wesl_text_respell.proofs.Writable.{are_writable, meant_of_writable, w
 
 -- ---- slots and others
 
-fewest_joined : (ss us : List Slot) → fewest (ss ++ us) ≡ fewest ss ++ fewest us
+pub fewest_joined : (ss us : List Slot) → fewest (ss ++ us) ≡ fewest ss ++ fewest us
 fewest_joined [] us = refl
 fewest_joined (must t ∷ ss) us = ap (λ z. t ∷ z) (fewest_joined ss us)
 fewest_joined (may t ∷ ss) us = fewest_joined ss us

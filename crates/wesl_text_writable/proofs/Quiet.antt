@@ -12,7 +12,7 @@ use mathlib.Core.Bool.{and-false}
 use Rattle.std.proofs.lemmas.Bool.{and_parts}
 
 -- a token that is hard has no sign first on which another may depend
-hard_unmarked : (t : Token) → not (is_soft t) ≡ true → marks t ≡ false
+pub hard_unmarked : (t : Token) → not (is_soft t) ≡ true → marks t ≡ false
 hard_unmarked (name t) h = refl
 hard_unmarked (number t) h = refl
 hard_unmarked (symbol s) h = by (is_soft_sign s) (marks (symbol s)) h (each (λ z. is_soft_sign z || not (marks (symbol z))) refl s) where
