@@ -1,11 +1,11 @@
 //! Validators: modules under built-in names, and the names that they leave free.
 use serde_json::Value;
-use wesl_rows_base::{List, Row, declared};
-use wesl_scope::{SyntaxUtil, free_names};
+use wesl_rows_base::{List, Object, Row, declared};
+use wesl_scope::{FreeUse, SyntaxUtil, free_names, free_uses};
 use wesl_tree::TranslationUnit;
 use wesl_validate::{validate_wesl, validate_wgsl};
 use wesl_validate_builtins::Builtins;
-use wesl_validate_faults::{faults_wesl, faults_wgsl};
+use wesl_validate_faults::{UndefinedUse, faults_wesl, faults_wgsl, undefined_uses};
 
 /// The module of the `tree`, numbered by what its identifiers mean, or, where the row says `as_read`, by their spellings.
 fn numbered(row: Row<'_>) -> TranslationUnit {
@@ -34,6 +34,53 @@ pub fn free(row: Row<'_>) -> Value {
     let mut answer = List::new(row.alloc);
     for name in free.as_slice() {
         answer.text(name);
+    }
+    answer.end(row)
+}
+
+/// A use of a free name.
+fn free_use_value(row: Row<'_>, told: &FreeUse<'_>) -> Value {
+    let mut answer = Object::new(row.alloc);
+    answer.text("name", told.name);
+    answer.number("place", told.place);
+    answer.end(row)
+}
+
+/// The uses of the names that the module leaves free.
+pub fn free_told(row: Row<'_>) -> Value {
+    let unit = numbered(row);
+    let uses = row.or(
+        free_uses(row.alloc, &unit, &builtins(row)),
+        Vec::new(row.alloc),
+    );
+    let mut answer = List::new(row.alloc);
+    for told in uses.as_slice() {
+        answer.put(free_use_value(row, told));
+    }
+    answer.end(row)
+}
+
+/// A reference that is not defined.
+fn undefined_use_value(row: Row<'_>, told: &UndefinedUse<'_>) -> Value {
+    let mut answer = Object::new(row.alloc);
+    if let Some(name) = told.declaration {
+        answer.text("declaration", name);
+    }
+    answer.text("name", told.name);
+    answer.number("place", told.place);
+    answer.end(row)
+}
+
+/// The references of the module that are not defined.
+pub fn undefined_told(row: Row<'_>) -> Value {
+    let unit = numbered(row);
+    let uses = row.or(
+        undefined_uses(row.alloc, &unit, &builtins(row)),
+        Vec::new(row.alloc),
+    );
+    let mut answer = List::new(row.alloc);
+    for told in uses.as_slice() {
+        answer.put(undefined_use_value(row, told));
     }
     answer.end(row)
 }

@@ -20,4 +20,4 @@ pub use wesl_validate::{validate_wesl, validate_wgsl};
 pub use wesl_validate_builtins::{
     BuiltinIdent, BuiltinType, Builtins, SampledType, SamplerType, TextureType, VecSize,
 };
-pub use wesl_validate_free::free_names;
+pub use wesl_validate_free::{FreeUse, free_names, free_uses};

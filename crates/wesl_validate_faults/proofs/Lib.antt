@@ -7,3 +7,4 @@ pub mod Repeated
 pub mod Rings
 pub mod Standing
 pub mod Telling
+pub mod Used

@@ -1,5 +1,5 @@
 -- What is gathered one after the other is what is listed.
-use Rattle.std.proofs.Common.{◌≡◌, ℕ, zero, suc, ◌+◌, ◌<◌, ◌||◌, ◌&&◌, ◌++◌, Bool, true, false, cond, List, [], ◌∷◌, length, map, take, get_or, refl, sym, ap, ◌∙◌, arith, add-one, append-nil, append_assoc}
+use Rattle.std.proofs.Common.{◌≡◌, ℕ, zero, suc, ◌+◌, ◌<◌, ◌||◌, ◌&&◌, ◌++◌, Bool, true, false, List, [], ◌∷◌, length, map, take, get_or, refl, sym, ap, ◌∙◌, arith, add-one, append-nil, append_assoc}
 use Rattle.std.specs.Prelude.{Option, Some, None, flat_map, slice_get, if◌then◌else◌}
 use Rattle.std.specs.List.{Contains, filter}
 use Rattle.std.specs.Option.{option_map}
@@ -18,13 +18,14 @@ use Rattle.wesl_validate_rules.specs.Known.{is_meant, binds, is_unknown}
 use Rattle.wesl_validate_rules.specs.Valid.{spelling, is_undefined}
 use Rattle.wesl_validate_calls.specs.declared.misfit.Misfit.{Misfit}
 use Rattle.wesl_validate_calls.specs.declared.misfit.Misfit.TheVariants as misfit
+use Rattle.wesl_validate_free.proofs.Passing.{passing}
 use Rattle.wesl_validate_faults.specs.Calls.{misfit_told}
 use Rattle.wesl_validate_faults.specs.Findings.{Finding, undefined, miscounted, not_callable}
-use Rattle.wesl_validate_faults.specs.Gathered.{named_here, named_in, declared_among, name_by, undefined_here, misfit_here, finding_view, findings_view}
+use Rattle.wesl_validate_faults.specs.Gathered.{named_here, named_in, declared_among, name_by, undefined_here, uses_among, misfit_here, finding_view, findings_view}
 use Rattle.wesl_validate_faults.specs.Listed.{module_numbers, undefineds}
+use Rattle.wesl_validate_faults.specs.Uses.{undefined_uses, use_at}
 use Rattle.wesl_validate_faults.specs.declared.finding.Finding as code
 use Rattle.wesl_validate_faults.proofs.Collecting.{view_push}
-use Rattle.wesl_scope_strip.proofs.Keeping.{contains_here, contains_later}
 
 -- an identifier that adds nothing
 pub no_name : (xs : List ℕ) (j : ℕ) (o : Found) → is_module_name o.role ≡ false → xs ++ named_here j o ≡ xs
@@ -43,16 +44,6 @@ pushed old now x fs e is = ap findings_view e ∙ (view_push old x ∙ ap (λ gs
 
 pub not_pushed : (old : List code.Finding) (fs : List Finding) → fs ≡ [] → findings_view old ≡ findings_view old ++ fs
 not_pushed old fs e = sym (ap (λ gs. findings_view old ++ gs) e ∙ append-nil (findings_view old))
-
--- those of a list that pass, seen by `g`
-module _ {A B C : Type 0} (v : A → B) (p : B → Bool) (g : B → C) (q : A → Bool) (h : A → C) (sees : (x : A) → g (v x) ≡ h x) where
-  pub passing : (xs : List A) → ((x : A) → Contains xs x → p (v x) ≡ q x) → map g (filter p (map v xs)) ≡ flat_map (λ x. if q x then h x ∷ [] else []) xs
-  passing [] tests = refl
-  passing (x ∷ xs) tests = ap (λ t. map g (cond t (v x ∷ filter p (map v xs)) (filter p (map v xs)))) (tests x (contains_here x xs)) ∙ by (q x) (passing xs (λ y c. tests y (contains_later x y xs c)))
-    where
-      by : (t : Bool) → map g (filter p (map v xs)) ≡ flat_map (λ x. if q x then h x ∷ [] else []) xs → map g (cond t (v x ∷ filter p (map v xs)) (filter p (map v xs))) ≡ (if t then h x ∷ [] else []) ++ flat_map (λ x. if q x then h x ∷ [] else []) xs
-      by true e = ap (λ n. n ∷ map g (filter p (map v xs))) (sees x) ∙ ap (λ ns. h x ∷ ns) e
-      by false e = e
 
 module _ (u : UnitView) (w : ℕ → Block) (os : List Found) (all_is : map (told w) os ≡ occurrences (trees_of u)) where
   named_is : (j : ℕ) → declared_in u j ≡ named_in os j
@@ -91,6 +82,15 @@ module _ (u : UnitView) (w : ℕ → Block) (os : List Found) (all_is : map (tol
     undefineds_are =
         ap (λ xs. map (λ (o : Occurrence ℕ). undefined (name_round u o.declaration) (spelling u o.name)) (filter (is_undefined u b) xs)) (sym all_is)
         ∙ passing (told w) (is_undefined u b) (λ (o : Occurrence ℕ). undefined (name_round u o.declaration) (spelling u o.name)) (is_unknown known) (λ (o : Found). undefined (name_by names holders o.declaration) (name_in names o.name)) told_as os (test_is u b names w os known all_is same within known_is)
+
+    used_as : (o : Found) → use_at o.place (name_round u o.declaration) (spelling u o.name) ≡ use_at o.place (name_by names holders o.declaration) (name_in names o.name)
+    used_as o = ap (λ d. use_at o.place d (spelling u o.name)) (round_is names holders same holders_are o.declaration) ∙ ap (λ ns. use_at o.place (name_by names holders o.declaration) (name_in ns o.name)) (sym same)
+
+    pub uses_are : uses_among names known holders os ≡ undefined_uses u b
+    uses_are =
+        sym (ap (λ xs. map (λ (o : Occurrence ℕ). use_at o.place (name_round u o.declaration) (spelling u o.name)) (filter (is_undefined u b) xs)) (sym all_is)
+        ∙ passing (told w) (is_undefined u b) (λ (o : Occurrence ℕ). use_at o.place (name_round u o.declaration) (spelling u o.name)) (is_unknown known)
+        (λ (o : Found). use_at o.place (name_by names holders o.declaration) (name_in names o.name)) used_as os (test_is u b names w os known all_is same within known_is))
 
 -- one more item, seen by a function
 module _ {A B : Type 0} (f : A → B) where

@@ -18,6 +18,8 @@ use Rattle.wesl_validate_faults.specs.Findings as spec
 use Rattle.wesl_validate_faults.specs.Listed.{module_numbers, AreCycles, IsFirst}
 use Rattle.wesl_validate_faults.specs.declared.finding.Finding.{Finding}
 use Rattle.wesl_validate_faults.specs.declared.finding.Finding.TheVariants as made
+use Rattle.wesl_validate_faults.specs.declared.uses.UndefinedUse.{UndefinedUse}
+use Rattle.wesl_validate_faults.specs.Uses.{Use, use_at}
 
 -- what a finding of the code stands for
 abbrev pub finding_view : Finding → spec.Finding
@@ -30,6 +32,10 @@ finding_view (made.NotCallable d n) = spec.not_callable (option_map (λ m. m.now
 -- what the findings of the code stand for, one by one
 abbrev pub findings_view : List Finding → List spec.Finding
 findings_view = map finding_view
+
+-- what uses of the code stand for, one by one
+abbrev pub uses_view : List UndefinedUse → List Use
+uses_view = map (λ x. use_at x.place (option_map (λ m. m.now) x.declaration) x.name.now)
 
 -- these findings are put after those before
 abbrev pub AreAdded : List Finding → List Finding → List spec.Finding → Type 0
@@ -65,6 +71,14 @@ module _ (names : List Text) where
   -- `known` marks the numbers whose name means something, and `holders` has of each declaration the number that it declares.
   abbrev pub undefined_here : List Bool → Graph → Found → List spec.Finding
   undefined_here known holders o = if is_unknown known o then spec.undefined (name_by holders o.declaration) (name_in names o.name) ∷ [] else []
+
+  -- the use that an identifier is, if it is not defined
+  abbrev pub use_here : List Bool → Graph → Found → List Use
+  use_here known holders o = if is_unknown known o then use_at o.place (name_by holders o.declaration) (name_in names o.name) ∷ [] else []
+
+  -- those that these identifiers are
+  abbrev pub uses_among : List Bool → Graph → List Found → List Use
+  uses_among known holders os = flat_map (use_here known holders) os
 
   -- a misfit of a call in declaration j
   abbrev pub misfit_here : Graph → ℕ → Misfit → spec.Finding

@@ -1,5 +1,5 @@
 -- Laws of the definitions, as functions of the crate cite them.
-use Rattle.std.specs.Prelude.{◌≡◌, ◌≢◌, ℕ, List}
+use Rattle.std.specs.Prelude.{◌≡◌, ◌≢◌, ℕ, List, map}
 use Rattle.std.specs.List.{Contains, AllPairs}
 use Rattle.wesl_tree_names.specs.Path.{Text}
 use Rattle.wesl_tree_names.specs.declared.errors.Diagnostic.{Diagnostic}
@@ -13,8 +13,10 @@ use Rattle.wesl_validate_calls.specs.Verdicts.{IsFirstEnd}
 use Rattle.wesl_validate_calls.specs.declared.misfit.Misfit.{Misfit}
 use Rattle.wesl_validate_faults.specs.Calls.{misfit_told, AreFindingsWgsl}
 use Rattle.wesl_validate_faults.specs.Findings.{Finding, cycle, IsFound, IsFoundWgsl}
-use Rattle.wesl_validate_faults.specs.Listed.{AreFindings}
+use Rattle.wesl_validate_faults.specs.Listed.{AreFindings, undefineds}
 use Rattle.wesl_validate_faults.specs.Telling.{TellsFinding}
+use Rattle.wesl_validate_faults.specs.Uses.{finding_at, undefined_uses}
+use Rattle.wesl_validate_free.specs.Uses.{free_uses, use_at}
 
 -- its cause is told: of a declaration that reaches itself, by whatever comes last on the way
 abbrev pub IsCauseTold : List Finding → Finding → Type 0
@@ -72,3 +74,13 @@ ListsEachOnceWgsl = (u : UnitView) (b : BuiltinNames) (fs : List Finding) → Ar
 -- a module has no two lists of all its findings, those of calls counted
 abbrev pub IsOneListWgsl : Type 0
 IsOneListWgsl = (u : UnitView) (b : BuiltinNames) (fs gs : List Finding) → AreFindingsWgsl u b fs → AreFindingsWgsl u b gs → fs ≡ gs
+
+-- ---- each use
+
+-- the references that are not defined, one by one, are what the findings begin with, before each is told once
+abbrev pub UsesAreFindings : Type 0
+UsesAreFindings = (u : UnitView) (b : BuiltinNames) → map finding_at (undefined_uses u b) ≡ undefineds u b
+
+-- they are the uses of names that are left free, at the same places
+abbrev pub UsesAreFree : Type 0
+UsesAreFree = (u : UnitView) (b : BuiltinNames) → map (λ x. use_at x.place x.name) (undefined_uses u b) ≡ free_uses u b

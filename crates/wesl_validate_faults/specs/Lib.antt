@@ -4,3 +4,4 @@ pub mod Gathered
 pub mod Laws
 pub mod Listed
 pub mod Telling
+pub mod Uses

@@ -1,5 +1,5 @@
 //! Laws of the definitions.
-ghost use Rattle.wesl_validate_faults.specs.Laws.{IsOneList, IsOneListWgsl, ListsEachCause, ListsEachCauseWgsl, ListsEachOnce, ListsEachOnceWgsl, ListsWhatStands, ListsWhatStandsWgsl, TellsRefusals, TellsRefusalsWgsl};
+ghost use Rattle.wesl_validate_faults.specs.Laws.{IsOneList, IsOneListWgsl, ListsEachCause, ListsEachCauseWgsl, ListsEachOnce, ListsEachOnceWgsl, ListsWhatStands, ListsWhatStandsWgsl, TellsRefusals, TellsRefusalsWgsl, UsesAreFindings, UsesAreFree};
 
 /// All that is listed stands in the module, and what tells it is one of the refusals of `validate_wesl`.
 pub fn law_of_all()
@@ -30,4 +30,10 @@ pub fn law_of_calls()
 pub fn law_of_call_lists()
     ensures one { IsOneListWgsl }
     ensures once { ListsEachOnceWgsl }
+{}
+
+/// The uses that are told are what the findings begin with, and those of the names that are left free.
+pub fn law_of_undefined_uses()
+    ensures findings { UsesAreFindings }
+    ensures free { UsesAreFree }
 {}

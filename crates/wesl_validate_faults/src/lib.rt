@@ -1,5 +1,5 @@
 //! All faults that validators find in a module at once, for tools that show them as they are found (WGSL, "Declaration and
-//! Scope").
+//! Scope"); and each reference that is not defined, with its place.
 #![tactic(auto)]
 
 mod calls;
@@ -11,9 +11,13 @@ mod laws;
 mod once;
 mod told;
 mod undefined;
+mod uses;
 mod wgsl;
 mod whole;
 
-pub use laws::{law_of_all, law_of_call_lists, law_of_calls, law_of_lists, law_of_one};
+pub use laws::{
+    law_of_all, law_of_call_lists, law_of_calls, law_of_lists, law_of_one, law_of_undefined_uses,
+};
+pub use uses::{UndefinedUse, undefined_uses};
 pub use wgsl::faults_wgsl;
 pub use whole::faults_wesl;

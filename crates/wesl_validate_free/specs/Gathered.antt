@@ -1,5 +1,5 @@
 -- What is gathered of identifiers, by marks of the numbers that are known.
-use Rattle.std.specs.Prelude.{Bool, List, map, if◌then◌else◌}
+use Rattle.std.specs.Prelude.{Bool, List, [], ◌∷◌, map, flat_map, if◌then◌else◌}
 use Rattle.std.specs.List.{filter}
 use Rattle.wesl_tree_names.specs.Path.{Text}
 use Rattle.wesl_tree_syntax.specs.Unit.{name_in}
@@ -10,6 +10,12 @@ use Rattle.wesl_scope_occurrences.specs.declared.occurrence.Occurrence.{Occurren
 use Rattle.wesl_scope_occurrences.specs.declared.whole.Identifiers.{Identifiers}
 use Rattle.wesl_validate_rules.specs.Known.{is_unknown}
 use Rattle.wesl_validate_free.specs.Free.{each_once}
+use Rattle.wesl_validate_free.specs.Uses.{Use, use_at}
+use Rattle.wesl_validate_free.specs.declared.uses.FreeUse.{FreeUse}
+
+-- what uses of the code stand for, one by one
+abbrev pub uses_view : List FreeUse → List Use
+uses_view = map (λ x. use_at x.place x.name.now)
 
 module _ (known : List Bool) (names : List Text) where
   -- texts with the name of an identifier, which goes last unless it is there, if it is a reference to nothing known
@@ -23,3 +29,11 @@ module _ (known : List Bool) (names : List Text) where
   -- those among the identifiers of a module, each once
   abbrev pub unknown_in : Identifiers → List Text
   unknown_in found = each_once (unknown_names (map occurrence_view found.all.items))
+
+  -- the use that an identifier is, if it is a reference to nothing known
+  abbrev pub use_here : Found → List Use
+  use_here o = if is_unknown known o then use_at o.place (name_in names o.name) ∷ [] else []
+
+  -- those that these identifiers are
+  abbrev pub uses_among : List Found → List Use
+  uses_among os = flat_map use_here os

@@ -1,3 +1,4 @@
 pub mod Free
 pub mod Gathered
 pub mod Laws
+pub mod Uses
