@@ -8,4 +8,4 @@ mod libraries;
 mod sorting;
 
 pub use chain::{Chain, UsedPackage};
-pub use libraries::Libraries;
+pub use libraries::{Libraries, PartedFolder, parted_folders};

@@ -11,6 +11,66 @@ use std::alloc::{AllocError, Global};
 use std::marker::Model;
 use wesl_tree_names::{ModulePath, PathOrigin};
 
+/// A folder that is two libraries.
+#[derive(Clone, Copy)]
+pub struct PartedFolder<'p> {
+    /// The folder.
+    pub folder: &'p str,
+    /// The first chain that leads to the first of its libraries.
+    pub first: &'p str,
+    /// The first chain that leads to another one.
+    pub other: &'p str,
+}
+
+/// The folders that several libraries are, since the same names lead on to other libraries: of each library but the first of its folder
+/// one. Refused for want of memory alone.
+pub fn parted_folders<'p>(
+    alloc: Global,
+    packages: &'p [UsedPackage],
+) -> Result<Vec<PartedFolder<'p>>, AllocError> {
+    let libraries = sorted(alloc, packages)?;
+    let mut parted = Vec::new(alloc);
+    for (index, package) in packages.iter().enumerate() {
+        let before = packages.get(..index).unwrap_or(packages);
+        if let Some(library) = libraries.get(index) {
+            if !has_library(&libraries, index, *library) {
+                add_parted(&mut parted, before, package)?;
+            }
+        }
+    }
+    Ok(parted)
+}
+
+// Whether one of the first few packages has a library.
+fn has_library(libraries: &[usize], count: usize, library: usize) -> bool {
+    for (index, one) in libraries.iter().enumerate() {
+        if index < count && *one == library {
+            return true;
+        }
+    }
+    false
+}
+
+// Adds a package of a library of its own, where one before it lies in its folder.
+fn add_parted<'p>(
+    parted: &mut Vec<PartedFolder<'p>>,
+    before: &'p [UsedPackage],
+    package: &'p UsedPackage,
+) -> Result<(), AllocError> {
+    let folder = package.folder.as_str();
+    for other in before {
+        if other.folder.as_str() == folder {
+            parted.push(PartedFolder {
+                folder,
+                first: other.name.as_str(),
+                other: package.name.as_str(),
+            })?;
+            return Ok(());
+        }
+    }
+    Ok(())
+}
+
 /// The chains of a project, by the libraries to which they lead. Contracts see the list of the chains.
 ///
 /// Paths of a link begin with homes, and those of the project with chains. A *new* home is the name of no chain. A name of the
@@ -155,8 +215,10 @@ impl Libraries {
     }
 
     /// The home of the library to which a chain leads: the chain itself, unless others lead there too.
+    #[tactic(auto, using(crate::proofs::Settled::settled))]
     pub fn home<'c>(&'c self, name: &'c str) -> &'c str
         ensures home { result.now ≡ home_of name.now self.now }
+        ensures settled { home_of result.now self.now ≡ result.now }
         ensures alone { is_diamond name.now self.now ≡ false → result.now ≡ name.now }
     {
         home_among(&self.chains, name)
