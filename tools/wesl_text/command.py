@@ -76,9 +76,9 @@ def features_of(options, project):
         found = sets[options.set]
     if options.no_features or found is None:
         return None
-    default = options.other_features or found.get("default")
+    default = options.other_features or found.get("default", "disable")
     flags = {**found.get("flags", {}), **dict(options.feature)}
-    return {**({"default": default} if default else {}), **({"flags": flags} if flags else {})}
+    return {"default": default, **({"flags": flags} if flags else {})}
 
 
 def comments_of(project, root, answer):

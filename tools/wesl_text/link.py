@@ -58,8 +58,8 @@ def find_program(named=None):
 
 
 def text_of(bundle):
-    """The bytes of a bundle: the same for the same bundle."""
-    return json.dumps(bundle, ensure_ascii=False, separators=(",", ":")).encode("utf-8", "surrogatepass") + b"\n"
+    """The bytes of a bundle: the same for the same bundle, and those that the program wesl-text writes."""
+    return json.dumps(bundle, ensure_ascii=False, separators=(",", ":"), sort_keys=True).encode("utf-8", "surrogatepass") + b"\n"
 
 
 def run(program, bundle):

@@ -143,7 +143,7 @@ class Project:
 
     def packages_below(self, above, wanted):
         found = []
-        for name, where in wanted.items():
+        for name, where in sorted(wanted.items(), key=lambda one: one[0].split("/")):
             if name.startswith(above) and name != above and "/" not in name[len(above):]:
                 found.append(Package(name[len(above):], name, where, self.packages_below(f"{name}/", wanted), self.folder))
         return found
@@ -182,7 +182,7 @@ class Project:
 
     def bundle(self, root, keep, features, **options):
         """The bundle of all modules and packages, its trees in form 2."""
-        modules = [{"path": one.path, "unit": one.unit} for one in self.own.modules.values()]
+        modules = [{"path": one.path, "unit": one.unit} for _, one in sorted(self.own.modules.items(), key=lambda one: one[0])]
         found = {"root": root, "keep": keep, "modules": modules, "form": 2, **options}
         if self.packages:
             found["packages"] = [one.tree() for one in self.packages]

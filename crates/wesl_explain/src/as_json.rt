@@ -1,9 +1,9 @@
 //! An explanation as one JSON object (docs/schema/explanation.json).
 
-use crate::chains::{chain_of, loaded_in};
 use crate::faults_json::write_faults;
 use json::{Token, Writer};
 use std::alloc::{AllocError, Global};
+use wesl_explain_text::{chain_of, loaded_in};
 use wesl_explain_world::{
     Cure, Explanation, FreeName, HeldDeclaration, Meaning, NameClash, NameId, Node, PathId, Read,
     UnusedImport,

@@ -1,11 +1,10 @@
 //! Faults as JSON.
 
 use crate::as_json::{write_alone, write_chain, write_left_out, write_symbol, write_text};
-use crate::chains::chain_at;
-use crate::cures::cure_word;
 use json::{Token, Writer};
 use serde_json::Value;
 use std::alloc::{AllocError, Global};
+use wesl_explain_text::{chain_at, cure_word};
 use wesl_explain_world::{
     Asker, Chain, Explanation, Fault, FaultCure, FaultLine, Flaw, LinkFault, NameId, PathId,
     Symbol, Target, Use,

@@ -1,16 +1,9 @@
 //! The program `wesl-explain`: a bundle in, and why its link is as it is, told to a person or as JSON.
 #![tactic(auto)]
 
-mod apart;
 mod as_json;
-mod chains;
-mod cures;
 mod faults_json;
-mod faults_text;
-mod headings;
 mod telling;
-mod text;
-mod uses;
 mod words;
 
 use crate::telling::{bytes_of, told_of, write_told};

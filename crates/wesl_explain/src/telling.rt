@@ -5,11 +5,10 @@ ghost use Rattle.wesl_explain.specs.Ends.{Ends, status_of};
 ghost use Rattle.wesl_explain.specs.Explained.{IsToldOf};
 
 use crate::as_json::json_of;
-use crate::text::text_of;
-use crate::words::Shown;
 use std::alloc::{AllocError, Global};
 use std::io::{Read, Write};
 use std::process::ExitCode;
+use wesl_explain_text::{Places, Shown, text_of};
 use wesl_explain_world::{Explanation, explained};
 use wesl_program::{NotedStream, read_whole, write_whole};
 
@@ -75,7 +74,12 @@ fn form_of(
     if is_json {
         json_of(alloc, told)
     } else {
-        text_of(alloc, told, shown)
+        let places = Places {
+            files: &[],
+            held: &[],
+            unused: &[],
+        };
+        text_of(alloc, told, shown, places)
     }
 }
 

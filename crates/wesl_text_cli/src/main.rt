@@ -3,6 +3,8 @@
 
 mod colors;
 mod depfile;
+mod finishing;
+mod libraries;
 mod running;
 mod wishes;
 mod words;
@@ -15,7 +17,7 @@ use clap::ArgMatches;
 use std::io::Write;
 use std::process::ExitCode;
 use std::{fs, io};
-use wesl_text_project::ProjectFault;
+use wesl_text_project::{Progress, ProjectFault};
 
 /// Ends with 0 where the project is linked, with 1 for a fault, with 2 for wrong use, and with 3 where a text was written that is not
 /// what the modules mean.
@@ -46,7 +48,12 @@ fn main(rt: HostRuntime) -> ExitCode {
 
 // Links, and writes what came of it.
 fn run(rt: &HostRuntime, matches: &ArgMatches<'_>) -> ExitCode {
-    match outcome_of(rt, matches) {
+    let progress = if matches.get_flag("progress") {
+        Some(Progress::new(*rt))
+    } else {
+        None
+    };
+    match outcome_of(rt, matches, progress) {
         Ok(outcome) => write(rt, matches, &outcome),
         Err(Stop::Use(text)) => {
             let _ = eprintln!(rt; "wesl-text: {text}");
@@ -78,31 +85,44 @@ fn tell_lines(rt: &HostRuntime, matches: &ArgMatches<'_>, lines: &str) -> io::Re
     }
 }
 
-// Writes the text, the rule, the map and the warnings.
+// Writes what came of a link, and tells what is told beside it.
 fn write(rt: &HostRuntime, matches: &ArgMatches<'_>, outcome: &Outcome) -> ExitCode {
-    let text = outcome.text.as_bytes();
-    let is_written = match matches.get_str("output") {
-        Some(file) => fs::write(rt, file, outcome.text.as_str()).is_ok(),
-        None => rt.stdout().write_all(text).is_ok(),
-    };
-    let is_noted = match matches.get_str("depfile") {
-        Some(file) => fs::write(rt, file, outcome.rule.as_str()).is_ok(),
-        None => true,
-    };
-    let is_mapped = match (matches.get_str("map"), &outcome.map) {
-        (Some(file), Some(map)) => fs::write(rt, file, map.as_str()).is_ok(),
-        _ => true,
-    };
-    if !is_written || !is_noted || !is_mapped {
-        let _ = eprintln!(rt; "wesl-text: the text, its depfile or its map cannot be written");
+    if !is_written(rt, matches, outcome) {
+        let _ = eprintln!(rt;
+            "wesl-text: the text, its bundle, its depfile or its map cannot be written"
+        );
         return ExitCode::from(1);
     }
     for warning in &outcome.warnings {
         let _ = tell_lines(rt, matches, warning.as_str());
     }
+    if let Some(fault) = &outcome.fault {
+        tell(rt, matches, fault);
+        return ExitCode::from(1);
+    }
     if outcome.is_as_meant {
         ExitCode::SUCCESS
     } else {
         ExitCode::from(3)
+    }
+}
+
+// Writes the text, the bundle, the rule and the map, so far as there are files for them.
+fn is_written(rt: &HostRuntime, matches: &ArgMatches<'_>, outcome: &Outcome) -> bool {
+    let is_shown = match (matches.get_str("output"), &outcome.text) {
+        (None, Some(text)) => rt.stdout().write_all(text.as_bytes()).is_ok(),
+        (file, text) => is_filed(rt, file, text.as_ref()),
+    };
+    is_shown
+        && is_filed(rt, matches.get_str("bundle"), outcome.bundle.as_ref())
+        && is_filed(rt, matches.get_str("depfile"), outcome.rule.as_ref())
+        && is_filed(rt, matches.get_str("map"), outcome.map.as_ref())
+}
+
+// Writes a text to a file, where there are both.
+fn is_filed(rt: &HostRuntime, file: Option<&str>, text: Option<&String>) -> bool {
+    match (file, text) {
+        (Some(file), Some(text)) => fs::write(rt, file, text.as_str()).is_ok(),
+        _ => true,
     }
 }

@@ -1,47 +1,50 @@
 //! From the words to the text and what is told beside it.
-use crate::depfile::rule_of;
+use crate::finishing::{Asked, outcome_of_link};
+use crate::libraries::{libraries_of, parted_warnings};
 use crate::wishes::{Stop, features_of, flags_of, packages_of};
-use crate::words::{naming_of, not_there_yet, validation_of};
+use crate::words::{naming_of, validation_of};
 use clap::ArgMatches;
 use std::alloc::{AllocError, Global};
 use std::fs;
 use std::path::Path;
 use std::rt::Files;
-use wesl_cond_features::Feature;
+use wesl_cond_features::{Feature, Features};
+use wesl_text_bundle::read_builtins;
 use wesl_text_homes::Libraries;
-use wesl_text_link::{
-    LinkWish, LinkedText, MapWish, ProjectModules, libraries_of, linked_text, read_builtins,
-};
+use wesl_text_link::{LinkWish, MapWish, ProjectModules, linked_text};
 use wesl_text_project::{
-    Description, Layout, ProjectFault, default_root, description_of, given_packages, layout_of,
-    parsed_root, root_of_file,
+    Description, Layout, Progress, ProjectFault, default_root, description_of, given_packages,
+    layout_of, parsed_root, root_of_file,
 };
 use wesl_tree::ModulePath;
+use wesl_validate_builtins::Builtins;
 
-/// What the program writes.
+/// What came of a link.
 #[derive(Drop)]
 pub struct Outcome {
-    /// The text of the linked unit.
-    pub text: String,
+    /// What is written: the text of the linked unit, or what explains the link, if that is asked for.
+    pub text: Option<String>,
     /// What is told beside it, each on a line.
     pub warnings: Vec<String>,
     /// Whether the text is what the modules mean.
     pub is_as_meant: bool,
     /// The rule of the files that were read.
-    pub rule: String,
+    pub rule: Option<String>,
     /// The source map, if one is asked for.
     pub map: Option<String>,
+    /// The bundle, if one is asked for.
+    pub bundle: Option<String>,
+    /// Why there is no text of the linked unit, if there is none.
+    pub fault: Option<ProjectFault>,
 }
 
-/// Links what the words ask for.
+/// Links what the words ask for. Where `progress` is given, it tells how many modules were read.
 pub fn outcome_of<R: Files + AllocGlobal + Clone + Drop>(
     rt: &R,
     matches: &ArgMatches<'_>,
+    progress: Option<Progress>,
 ) -> Result<Outcome, Stop> {
     let alloc = rt.alloc();
-    if let Some(word) = not_there_yet(matches) {
-        return Err(Stop::Use(format!(in alloc; "--{word} is not there yet")?));
-    }
     let project = matches.get_str("PROJECT").unwrap_or(".");
     let is_file = Path::new(project).is_file(rt);
     let folder = if is_file { folder_of(project) } else { project };
@@ -50,7 +53,7 @@ pub fn outcome_of<R: Files + AllocGlobal + Clone + Drop>(
     let given = given_packages(alloc, &packages)?;
     let layout = layout_of(rt, folder, &mut description, given)?;
     let root = root_of(rt, matches, &description, &layout, is_file, project)?;
-    linked(rt, matches, &description, &layout, &root, is_file)
+    linked(rt, matches, &description, &layout, &root, is_file, progress)
 }
 
 // The folder of a file.
@@ -114,6 +117,7 @@ fn linked<'m, R: Files + AllocGlobal>(
     layout: &'m Layout,
     root: &'m ModulePath,
     is_file: bool,
+    progress: Option<Progress>,
 ) -> Result<Outcome, Stop> {
     let alloc = rt.alloc();
     let flags = flags_of(alloc, matches.get_strs("feature"))?;
@@ -121,46 +125,82 @@ fn linked<'m, R: Files + AllocGlobal>(
     let keep = keep_of(alloc, matches, description, is_file)?;
     let file = matches.get_str("builtins");
     let text = builtins_text(rt, file)?;
-    let builtins = read_builtins(
-        alloc,
-        file.unwrap_or(""),
-        text.as_ref().map(|text| text.as_str()),
-    )?;
-    let wish = LinkWish {
+    let text = text.as_ref().map(|text| text.as_str());
+    let builtins = read_builtins(alloc, file.unwrap_or(""), text)?;
+    let names = flag_names(alloc, &flags)?;
+    let keep = keep.as_ref().map(|keep| keep.as_slice());
+    let wish = link_wish(matches, root, keep, &builtins);
+    let asked = Asked {
+        matches,
+        description,
+        wish: &wish,
+        builtins: text,
+    };
+    linked_by(rt, layout, asked, features.as_ref(), &names, progress)
+}
+
+// Links the modules of a layout by the wish and under these features, whose flags have these names.
+fn linked_by<R: Files + AllocGlobal>(
+    rt: &R,
+    layout: &Layout,
+    asked: Asked<'_, '_>,
+    features: Option<&Features>,
+    names: &[&str],
+    progress: Option<Progress>,
+) -> Result<Outcome, Stop> {
+    let alloc = rt.alloc();
+    let parted = parted_libraries(rt, asked.matches, layout)?;
+    let libraries = linked_libraries(rt, asked.matches, layout, asked.wish.root)?;
+    let mut modules = ProjectModules::new(rt, layout, &libraries, features, names, progress)?;
+    let found = linked_text(alloc, &mut modules, asked.wish);
+    outcome_of_link(alloc, asked, modules.read_modules(), parted, found)
+}
+
+// The link that is asked for.
+fn link_wish<'w>(
+    matches: &'w ArgMatches<'_>,
+    root: &'w ModulePath,
+    keep: Option<&'w [&'w str]>,
+    builtins: &'w Builtins,
+) -> LinkWish<'w> {
+    LinkWish {
         root,
-        keep: keep.as_ref().map(|keep| keep.as_slice()),
+        keep,
         is_eager: matches.get_flag("eager"),
         naming: naming_of(matches),
         mangle_root: matches.get_flag("mangle-root"),
         validation: validation_of(matches),
-        builtins: &builtins,
+        builtins,
         has_comments: !matches.get_flag("no-comments"),
         map: map_wish(matches),
-    };
-    let names = flag_names(alloc, &flags)?;
-    let libraries = if matches.get_flag("copies") {
-        Libraries::new(alloc)
+    }
+}
+
+// The libraries of a layout.
+fn linked_libraries<R: Files + AllocGlobal>(
+    rt: &R,
+    matches: &ArgMatches<'_>,
+    layout: &Layout,
+    root: &ModulePath,
+) -> Result<Libraries, AllocError> {
+    if matches.get_flag("copies") {
+        Ok(Libraries::new(rt.alloc()))
     } else {
-        libraries_of(rt, layout, root)?
-    };
-    let mut modules = ProjectModules::new(rt, layout, &libraries, features.as_ref(), &names)?;
-    let linked = linked_text(alloc, &mut modules, &wish)?;
-    let told = warnings(alloc, &modules, &linked)?;
-    let files = modules.files()?;
-    let rule = rule_of(alloc, matches, &files, description)?;
-    let LinkedText {
-        text,
-        clash,
-        notes: _,
-        map,
-    } = linked;
-    Ok(Outcome {
-        text,
-        warnings: told,
-        is_as_meant: !clash,
-        rule,
-        map,
-    })
+        libraries_of(rt, layout, root)
+    }
+}
+
+// What is told of folders that are several libraries.
+fn parted_libraries<R: Files + AllocGlobal>(
+    rt: &R,
+    matches: &ArgMatches<'_>,
+    layout: &Layout,
+) -> Result<Vec<String>, AllocError> {
+    if matches.get_flag("copies") {
+        Ok(Vec::new(rt.alloc()))
+    } else {
+        parted_warnings(rt, layout)
+    }
 }
 
 // The source map that is asked for, if one is.
@@ -195,26 +235,4 @@ fn builtins_text<R: Files + AllocGlobal>(
         Ok(text) => Ok(Some(text)),
         Err(fault) => Err(ProjectFault::Project(format!(in rt.alloc(); "{file}: {fault}")?)),
     }
-}
-
-// What is told beside the text.
-fn warnings<R: Files + AllocGlobal>(
-    alloc: Global,
-    modules: &ProjectModules<'_, R>,
-    linked: &LinkedText,
-) -> Result<Vec<String>, AllocError> {
-    let mut told = Vec::new(alloc);
-    for flag in modules.unknown_flags()? {
-        told.push(format!(in alloc; "warning: no module that is loaded has the flag `{flag}`")?)?;
-    }
-    if linked.clash {
-        told.push(String::from_str(
-            alloc,
-            "warning: the printed names clash: the text does not mean what the modules do; take another --mangler, or rename",
-        )?)?;
-    }
-    if !linked.notes.is_empty() {
-        told.push(String::from_str(alloc, linked.notes.as_str())?)?;
-    }
-    Ok(told)
 }

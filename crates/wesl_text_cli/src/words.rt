@@ -174,19 +174,28 @@ fn with_outputs<'a>(alloc: Global, command: Command<'a>) -> Result<Command<'a>, 
             "whether faults are colored: on a terminal without NO_COLOR, or as is said",
         )
         .value_parser(COLORS.as_slice()))?
-        .arg(flag(alloc, "bundle", "is not there yet"))?
-        .arg(flag(alloc, "explain", "is not there yet"))?
-        .arg(flag(alloc, "progress", "is not there yet"))
-}
-
-/// The word that asks for what is not there yet, if there is one.
-pub fn not_there_yet(matches: &ArgMatches<'_>) -> Option<&'static str> {
-    for word in ["bundle", "explain", "progress"] {
-        if matches.get_flag(word) {
-            return Some(word);
-        }
-    }
-    None
+        .arg(option(
+            alloc,
+            "bundle",
+            "FILE",
+            "write the bundle of the loaded modules there, as wesl-link and wesl-explain read it, also where the link has a fault",
+        ))?
+        .arg(
+            option(
+                alloc,
+                "explain",
+                "NAME",
+                "write in place of the text why the link is as it is, or --explain=NAME why the declarations of this name are held",
+            )
+            .num_args(0_usize..=1)
+            .require_equals(true)
+            .default_missing_value(""),
+        )?
+        .arg(flag(
+            alloc,
+            "progress",
+            "tell on standard error how many modules were read, every second",
+        ))
 }
 
 /// An answer to a flag: `NAME=WORD`, or `NAME` alone, which enables it.

@@ -76,8 +76,8 @@ fn is_import_wanted(import: &Imported, wanted: Wanted<'_>) -> bool {
     }
 }
 
-/// The name of an identifier of a table.
-pub(crate) fn name_of(names: &Names, ident: Ident) -> &str {
+/// The name of an identifier of a table, empty where it has none.
+pub fn name_of(names: &Names, ident: Ident) -> &str {
     if ident.0 < names.len() {
         names.name(ident)
     } else {
@@ -86,7 +86,7 @@ pub(crate) fn name_of(names: &Names, ident: Ident) -> &str {
 }
 
 /// The name that a declaration declares.
-pub(crate) fn declared(declaration: &GlobalDeclaration) -> Option<Ident> {
+pub fn declared(declaration: &GlobalDeclaration) -> Option<Ident> {
     match declaration {
         GlobalDeclaration::Declaration(inner) => Some(inner.ident),
         GlobalDeclaration::TypeAlias(inner) => Some(inner.ident),
@@ -95,6 +95,22 @@ pub(crate) fn declared(declaration: &GlobalDeclaration) -> Option<Ident> {
         GlobalDeclaration::Void => None,
         GlobalDeclaration::ConstAssert(_) => None,
     }
+}
+
+/// The names that the imports of a unit at a path of a link bind, and where these stand. Refused for want of memory alone.
+pub fn bound_names(
+    alloc: Global,
+    libraries: &Libraries,
+    path: &ModulePath,
+    unit: &TranslationUnit,
+) -> Result<Vec<(String, Span)>, AllocError> {
+    let path = &libraries.told_path(alloc, path)?;
+    let at = At { path, libraries };
+    let mut bound = Vec::new(alloc);
+    for import in &imports_of(alloc, &at, unit)? {
+        bound.push((String::from_str(alloc, import.bound.as_str())?, import.span))?;
+    }
+    Ok(bound)
 }
 
 // The items that a unit imports.

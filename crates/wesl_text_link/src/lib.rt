@@ -8,21 +8,21 @@
 #![tactic(auto)]
 
 mod asking;
-mod builtins;
 mod clashing;
 mod comments;
-mod libraries;
 mod linking;
 mod mapping;
 mod modules;
 mod places;
+mod read_modules;
 mod searching;
 mod telling;
 mod texts;
 
-pub use builtins::read_builtins;
-pub use libraries::libraries_of;
-pub use linking::{LinkWish, LinkedText, Naming, linked_text};
+pub use asking::{bound_names, declared, name_of};
+pub use linking::{LinkWish, LinkedText, Naming, copies, entry_points, linked_text};
 pub use mapping::MapWish;
-pub use modules::{ProjectModules, ReadModule};
+pub use modules::{ProjectModules, ReadModule, unit_of_module};
+pub use read_modules::ReadModules;
+pub use telling::refusal_line;
 pub use wesl_text_linked::Validation;

@@ -132,8 +132,8 @@ fn kept_names(
     Ok(names)
 }
 
-// Copies of names.
-fn copies(alloc: Global, names: &[&str]) -> Result<Vec<String>, AllocError> {
+/// Copies of names. Refused for want of memory alone.
+pub fn copies(alloc: Global, names: &[&str]) -> Result<Vec<String>, AllocError> {
     let mut copied = Vec::new(alloc);
     for name in names.iter() {
         copied.push(String::from_str(alloc, name)?)?;
@@ -141,8 +141,8 @@ fn copies(alloc: Global, names: &[&str]) -> Result<Vec<String>, AllocError> {
     Ok(copied)
 }
 
-// The names of a unit's entry points, each once.
-fn entry_points(alloc: Global, unit: &TranslationUnit) -> Result<Vec<String>, ProjectFault> {
+/// The names of a unit's entry points, each once. Refused for want of memory alone.
+pub fn entry_points(alloc: Global, unit: &TranslationUnit) -> Result<Vec<String>, ProjectFault> {
     let mut names: Vec<String> = Vec::new(alloc);
     for ident in or_memory(unit.entry_points(alloc))? {
         let name = name_of(unit.names(), ident);

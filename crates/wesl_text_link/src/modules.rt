@@ -12,7 +12,7 @@ use wesl_text::{TextFault, read_unit};
 use wesl_text_homes::Libraries;
 use wesl_text_homes_rewrite::redirect;
 use wesl_text_lines::LineStarts;
-use wesl_text_project::{Layout, ModuleFile, module_file};
+use wesl_text_project::{Layout, ModuleFile, Progress, module_file};
 use wesl_tree::{Diagnostic, Error, ModulePath, ResolveError, Span, TranslationUnit};
 
 /// A module that was read.
@@ -40,6 +40,8 @@ pub struct ProjectModules<'r, R> {
     pub(crate) read: IndexMap<ModulePath, ReadModule>,
     // The flags that are asked for, and whether a module that was read has them.
     pub(crate) flags: IndexMap<String, bool>,
+    // What tells how far it is, if that is asked for.
+    progress: Option<Progress>,
 }
 
 impl<'r, R> Drop for ProjectModules<'r, R> {
@@ -51,19 +53,21 @@ impl<'r, R> Drop for ProjectModules<'r, R> {
             features: _,
             read: _,
             flags: _,
+            progress: _,
         } = self;
     }
 }
 
 impl<'r, R: Files + AllocGlobal> ProjectModules<'r, R> {
     /// Those of a layout with these libraries, under features; without features no condition is judged. The flags are asked for in the
-    /// modules that are read.
+    /// modules that are read. Where `progress` is given, it tells how many were read.
     pub fn new(
         rt: &'r R,
         layout: &'r Layout,
         libraries: &'r Libraries,
         features: Option<&'r Features>,
         flags: &[&str],
+        progress: Option<Progress>,
     ) -> Result<ProjectModules<'r, R>, AllocError> {
         let alloc = rt.alloc();
         let mut asked = IndexMap::new(alloc);
@@ -77,27 +81,8 @@ impl<'r, R: Files + AllocGlobal> ProjectModules<'r, R> {
             features,
             read: IndexMap::new(alloc),
             flags: asked,
+            progress,
         })
-    }
-
-    /// The files that were read, in the order in which they were asked for.
-    pub fn files(&self) -> Result<Vec<&str>, AllocError> {
-        let mut files = Vec::new(self.rt.alloc());
-        for module in self.read.values() {
-            files.push(module.file.as_str())?;
-        }
-        Ok(files)
-    }
-
-    /// The flags that were asked for and that no module has which was read.
-    pub fn unknown_flags(&self) -> Result<Vec<&str>, AllocError> {
-        let mut unknown = Vec::new(self.rt.alloc());
-        for (flag, is_known) in self.flags.iter() {
-            if !*is_known {
-                unknown.push(flag.as_str())?;
-            }
-        }
-        Ok(unknown)
     }
 
     // Reads a file, and keeps what it says.
@@ -120,6 +105,10 @@ impl<'r, R: Files + AllocGlobal> ProjectModules<'r, R> {
             declared: Vec::new(alloc),
         };
         self.read.insert(path, module)?;
+        let count = self.read.len();
+        if let Some(progress) = &mut self.progress {
+            progress.tell(count);
+        }
         Ok(())
     }
 
@@ -211,8 +200,8 @@ fn text_of_bytes(alloc: Global, bytes: &[u8]) -> Result<(String, bool), AllocErr
     }
 }
 
-/// The unit that a module says.
-pub(crate) fn unit_of_module(
+/// The unit that a module says at a path. Refused where its file has none, and for want of memory.
+pub fn unit_of_module(
     alloc: Global,
     path: &ModulePath,
     module: &ReadModule,

@@ -72,6 +72,30 @@ impl<'r, R> ProjectModules<'r, R> {
     }
 }
 
+/// The line that tells why a module has no unit. Refused for want of memory alone.
+pub fn refusal_line(
+    alloc: Global,
+    libraries: &Libraries,
+    module: &ReadModule,
+    refusal: ResolveError,
+) -> Result<String, AllocError> {
+    let told = Diagnostic::of(Error::Resolve(refusal));
+    if told.error.is_memory() {
+        return Err(AllocError);
+    }
+    let found = found_in(&told);
+    let text = text_of(alloc, libraries, found.cause)?;
+    let start = match found.span {
+        Some(span) => span.start as usize,
+        None => 0,
+    };
+    let place = place_of(module.text.as_str(), start);
+    let file = module.file.as_str();
+    let line = place.line;
+    let column = place.column;
+    format!(in alloc; "{file}:{line}:{column}: error: {text}")
+}
+
 // Adds a line with a place, and of an error the line of the source.
 pub(crate) fn add_place(
     alloc: Global,

@@ -13,6 +13,7 @@ mod layout;
 mod packages;
 mod paths;
 mod places;
+mod progress;
 mod roots;
 
 pub use description::{Description, FeatureSet, description_of, feature_of};
@@ -22,4 +23,5 @@ pub use layout::{Layout, PackageFolder};
 pub use packages::{given_packages, layout_of};
 pub use paths::{below, shown_below};
 pub use places::line_at;
+pub use progress::Progress;
 pub use roots::{default_root, parsed_root, root_of_file};

@@ -1,6 +1,7 @@
 //! What is wrong in a link, in a line.
 
 use crate::chains::push_symbol;
+use crate::places::{Places, push_span};
 use crate::text::push_quoted;
 use std::alloc::{AllocError, Global};
 use wesl_explain_world::{
@@ -243,22 +244,18 @@ fn push_targets(
     Ok(())
 }
 
-/// Writes where a fault stands in its source.
-pub fn push_span(out: &mut String, alloc: Global, line: &FaultLine) -> Result<(), AllocError> {
-    if let Some(span) = line.value.get("span") {
-        let span = span.to_string(alloc)?;
-        out.push_str(" at ")?;
-        out.push_str(span.as_str())?;
-    }
-    Ok(())
-}
-
 /// Writes the faults of conditions.
-fn push_conditions(out: &mut String, alloc: Global, lines: &[FaultLine]) -> Result<(), AllocError> {
+fn push_conditions(
+    out: &mut String,
+    alloc: Global,
+    told: &Explanation,
+    places: &Places<'_>,
+    lines: &[FaultLine],
+) -> Result<(), AllocError> {
     for line in lines {
         out.push_str("     ")?;
         out.push_str(line.text.as_str())?;
-        push_span(out, alloc, line)?;
+        push_span(out, alloc, line, told, places)?;
         out.push_str("\n")?;
     }
     Ok(())
@@ -269,6 +266,7 @@ pub fn push_head(
     out: &mut String,
     alloc: Global,
     told: &Explanation,
+    places: &Places<'_>,
     fault: &Fault,
     link: &LinkFault,
 ) -> Result<(), AllocError> {
@@ -276,5 +274,5 @@ pub fn push_head(
     push_near(out, told, fault, link)?;
     out.push_str("\n")?;
     push_targets(out, told, &link.targets)?;
-    push_conditions(out, alloc, &fault.conditions)
+    push_conditions(out, alloc, told, places, &fault.conditions)
 }

@@ -2,7 +2,7 @@
 use std::alloc::{AllocError, Global};
 use std::fs;
 use std::rt::Files;
-use wesl_text_homes::{Libraries, UsedPackage};
+use wesl_text_homes::{Libraries, UsedPackage, parted_folders};
 use wesl_text_project::Layout;
 use wesl_tree::ModulePath;
 
@@ -15,6 +15,26 @@ pub fn libraries_of<R: Files + AllocGlobal>(
     let alloc = rt.alloc();
     let packages = real_packages(rt, alloc, layout)?;
     Libraries::of_packages(alloc, &packages, root)
+}
+
+/// The warnings that a folder of a layout is several libraries, so that what it declares is linked several times. Refused for want of
+/// memory alone.
+pub fn parted_warnings<R: Files + AllocGlobal>(
+    rt: &R,
+    layout: &Layout,
+) -> Result<Vec<String>, AllocError> {
+    let alloc = rt.alloc();
+    let packages = real_packages(rt, alloc, layout)?;
+    let mut told = Vec::new(alloc);
+    for parted in parted_folders(alloc, &packages)? {
+        let folder = parted.folder;
+        let first = parted.first;
+        let other = parted.other;
+        told.push(format!(in alloc;
+            "warning: the packages `{first}` and `{other}` are the folder {folder}, and are linked apart: the names that it uses lead on to other libraries"
+        )?)?;
+    }
+    Ok(told)
 }
 
 // The packages of a layout, of those of one name the first, with the real names of their folders.

@@ -2,7 +2,8 @@
 
 use crate::apart::{apart, uses_of};
 use crate::cures::cure_text;
-use crate::headings::{is_kept, push_head, push_span};
+use crate::headings::{is_kept, push_head};
+use crate::places::{Places, push_span};
 use crate::text::push_heading;
 use crate::uses::push_uses;
 use std::alloc::{AllocError, Global};
@@ -19,9 +20,15 @@ fn push_cures(out: &mut String, link: &LinkFault) -> Result<(), AllocError> {
 }
 
 /// Writes a fault of which its line is told alone.
-fn push_line(out: &mut String, alloc: Global, line: &FaultLine) -> Result<(), AllocError> {
+fn push_line(
+    out: &mut String,
+    alloc: Global,
+    told: &Explanation,
+    places: &Places<'_>,
+    line: &FaultLine,
+) -> Result<(), AllocError> {
     out.push_str(line.text.as_str())?;
-    push_span(out, alloc, line)?;
+    push_span(out, alloc, line, told, places)?;
     out.push_str("\n")?;
     Ok(())
 }
@@ -31,15 +38,16 @@ fn push_fault(
     out: &mut String,
     alloc: Global,
     told: &Explanation,
+    places: &Places<'_>,
     fault: &Fault,
     behind: &[Fault],
 ) -> Result<(), AllocError> {
     let Some(link) = &fault.link else {
-        return push_line(out, alloc, &fault.line);
+        return push_line(out, alloc, told, places, &fault.line);
     };
     let uses = uses_of(alloc, fault, behind)?;
-    push_head(out, alloc, told, fault, link)?;
-    push_uses(out, alloc, told, &uses)?;
+    push_head(out, alloc, told, places, fault, link)?;
+    push_uses(out, alloc, told, places, &uses)?;
     push_cures(out, link)
 }
 
@@ -56,6 +64,7 @@ fn push_numbered(
     out: &mut String,
     alloc: Global,
     told: &Explanation,
+    places: &Places<'_>,
     number: usize,
     index: usize,
 ) -> Result<(), AllocError> {
@@ -65,15 +74,20 @@ fn push_numbered(
     let number = number.to_string(alloc)?;
     out.push_str(number.as_str())?;
     out.push_str("  ")?;
-    push_fault(out, alloc, told, fault, behind)
+    push_fault(out, alloc, told, places, fault, behind)
 }
 
 /// Writes the faults, each with its number.
-pub fn push_faults(out: &mut String, alloc: Global, told: &Explanation) -> Result<(), AllocError> {
+pub fn push_faults(
+    out: &mut String,
+    alloc: Global,
+    told: &Explanation,
+    places: &Places<'_>,
+) -> Result<(), AllocError> {
     let indexes = apart(alloc, told)?;
     push_heading(out, alloc, "Refused, faults", indexes.len())?;
     for (place, index) in indexes.iter().enumerate() {
-        push_numbered(out, alloc, told, place.saturating_add(1), *index)?;
+        push_numbered(out, alloc, told, places, place.saturating_add(1), *index)?;
     }
     Ok(())
 }

@@ -1,6 +1,7 @@
 //! Who asks for a fault, as text.
 
 use crate::chains::{chain_at, push_chain, push_symbol};
+use crate::places::{Places, push_file_place};
 use std::alloc::{AllocError, Global};
 use wesl_explain_world::{Asker, Explanation, NameId, PathId, Use};
 
@@ -103,6 +104,28 @@ fn push_asker(out: &mut String, told: &Explanation, asked: Use) -> Result<(), Al
     }
 }
 
+/// The module in which it is asked.
+fn module_of(asked: Use) -> Option<PathId> {
+    match asked.asker {
+        Asker::Kept(_) => None,
+        Asker::Named(path, _, _) | Asker::Unclear(path, _, _) => Some(path),
+        Asker::Imported(path, _) | Asker::Whole(path) => Some(path),
+    }
+}
+
+/// Writes in which file and line it is asked.
+fn push_asker_place(
+    out: &mut String,
+    alloc: Global,
+    places: &Places<'_>,
+    asked: Use,
+) -> Result<(), AllocError> {
+    match module_of(asked) {
+        Some(path) => push_file_place(out, alloc, ", ", places.file(path), asked.span),
+        None => Ok(()),
+    }
+}
+
 /// Writes how many uses there are, where there are several.
 fn push_count(out: &mut String, alloc: Global, count: usize) -> Result<(), AllocError> {
     if count > 1 {
@@ -119,11 +142,13 @@ fn push_group(
     out: &mut String,
     alloc: Global,
     told: &Explanation,
+    places: &Places<'_>,
     group: Group,
 ) -> Result<(), AllocError> {
     let chain = chain_at(alloc, told, group.first.place)?;
     out.push_str("     ")?;
     push_asker(out, told, group.first)?;
+    push_asker_place(out, alloc, places, group.first)?;
     push_count(out, alloc, group.count)?;
     out.push_str("   ")?;
     if chain.len() <= 1 && !is_kept(group.first) {
@@ -161,11 +186,12 @@ pub fn push_uses(
     out: &mut String,
     alloc: Global,
     told: &Explanation,
+    places: &Places<'_>,
     uses: &[Use],
 ) -> Result<(), AllocError> {
     let groups = groups_of(alloc, uses)?;
     for group in groups.iter().take(MOST) {
-        push_group(out, alloc, told, *group)?;
+        push_group(out, alloc, told, places, *group)?;
     }
     push_more(out, alloc, groups.len())
 }

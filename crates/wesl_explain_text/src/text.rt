@@ -2,11 +2,20 @@
 
 use crate::chains::{chain_of, loaded_in, push_chain, push_symbol};
 use crate::faults_text::push_faults;
-use crate::words::Shown;
+use crate::places::{ModuleFile, Places, push_file_place};
+use crate::shown::Shown;
 use std::alloc::{AllocError, Global};
 use wesl_explain_world::{
     Cure, Explanation, FreeName, HeldDeclaration, Meaning, NameClash, PathId, Read, UnusedImport,
 };
+use wesl_tree_base::Span;
+
+/// What is told, and where it stands.
+#[derive(Clone, Copy)]
+struct View<'v> {
+    shown: Shown<'v>,
+    places: Places<'v>,
+}
 
 /// Writes a heading with how many there are below it.
 pub fn push_heading(
@@ -31,15 +40,28 @@ pub fn push_quoted(out: &mut String, text: &str) -> Result<(), AllocError> {
     Ok(())
 }
 
+/// Writes the file of a module, where it is known.
+fn push_file(out: &mut String, view: View<'_>, path: PathId) -> Result<(), AllocError> {
+    match view.places.file(path) {
+        Some(file) => {
+            out.push_str(", ")?;
+            out.push_str(file.name)
+        }
+        None => Ok(()),
+    }
+}
+
 fn push_module(
     out: &mut String,
     alloc: Global,
     told: &Explanation,
+    view: View<'_>,
     path: PathId,
 ) -> Result<(), AllocError> {
     let chain = chain_of(alloc, told, path, None)?;
     out.push_str("  ")?;
     out.push_str(told.path(path))?;
+    push_file(out, view, path)?;
     if chain.len() <= 1 {
         out.push_str("\n    it is the root\n")?;
         return Ok(());
@@ -54,11 +76,11 @@ fn push_modules(
     out: &mut String,
     alloc: Global,
     told: &Explanation,
-    shown: Shown<'_>,
+    view: View<'_>,
 ) -> Result<(), AllocError> {
     for path in loaded_in(told) {
-        if shown.has_module(told.path(*path)) {
-            push_module(out, alloc, told, *path)?;
+        if view.shown.has_module(told.path(*path)) {
+            push_module(out, alloc, told, view, *path)?;
         }
     }
     Ok(())
@@ -87,11 +109,14 @@ fn push_declaration(
     out: &mut String,
     alloc: Global,
     told: &Explanation,
+    file: Option<ModuleFile<'_>>,
+    span: Option<Span>,
     declaration: &HeldDeclaration,
 ) -> Result<(), AllocError> {
     let chain = chain_of(alloc, told, declaration.path, declaration.name)?;
     out.push_str("    ")?;
     push_name(out, told, declaration)?;
+    push_file_place(out, alloc, ", ", file, span)?;
     out.push_str("\n      ")?;
     push_chain(out, told, &chain)?;
     out.push_str("\n")?;
@@ -125,18 +150,28 @@ fn push_home(
     out.push_str("\n")
 }
 
+// The place at an index of a list, if it is known.
+fn span_at(spans: &[Option<Span>], index: usize) -> Option<Span> {
+    match spans.get(index) {
+        Some(span) => *span,
+        None => None,
+    }
+}
+
 /// Writes held declarations, below the path of each module.
 fn push_held(
     out: &mut String,
     alloc: Global,
     told: &Explanation,
-    shown: Shown<'_>,
+    view: View<'_>,
 ) -> Result<(), AllocError> {
     let mut home: Option<PathId> = None;
-    for declaration in &told.held {
-        if is_shown(told, shown, declaration) {
+    for (index, declaration) in told.held.iter().enumerate() {
+        if is_shown(told, view.shown, declaration) {
             push_home(out, told, &mut home, declaration.path)?;
-            push_declaration(out, alloc, told, declaration)?;
+            let file = view.places.file(declaration.path);
+            let span = span_at(view.places.held, index);
+            push_declaration(out, alloc, told, file, span, declaration)?;
         }
     }
     Ok(())
@@ -254,7 +289,10 @@ fn push_free(out: &mut String, told: &Explanation, free: &[FreeName]) -> Result<
 /// Writes an import that nothing held uses.
 fn push_import(
     out: &mut String,
+    alloc: Global,
     told: &Explanation,
+    file: Option<ModuleFile<'_>>,
+    span: Option<Span>,
     import: &UnusedImport,
 ) -> Result<(), AllocError> {
     out.push_str("  ")?;
@@ -265,6 +303,7 @@ fn push_import(
         out.push_str(" as ")?;
         out.push_str(told.name(import.bound))?;
     }
+    push_file_place(out, alloc, ", ", file, span)?;
     if import.is_used_unheld {
         out.push_str(", which only declarations use that are not held")?;
     }
@@ -273,11 +312,14 @@ fn push_import(
 
 fn push_unused(
     out: &mut String,
+    alloc: Global,
     told: &Explanation,
-    unused: &[UnusedImport],
+    view: View<'_>,
 ) -> Result<(), AllocError> {
-    for import in unused {
-        push_import(out, told, import)?;
+    for (index, import) in told.unused.iter().enumerate() {
+        let file = view.places.file(import.path);
+        let span = span_at(view.places.unused, index);
+        push_import(out, alloc, told, file, span, import)?;
     }
     Ok(())
 }
@@ -287,13 +329,13 @@ fn push_link(
     out: &mut String,
     alloc: Global,
     told: &Explanation,
-    shown: Shown<'_>,
+    view: View<'_>,
 ) -> Result<(), AllocError> {
     push_heading(out, alloc, "Modules that were loaded", told.modules.len())?;
-    push_modules(out, alloc, told, shown)?;
+    push_modules(out, alloc, told, view)?;
     push_heading(out, alloc, "\nDeclarations that are held", told.held.len())?;
-    push_held(out, alloc, told, shown)?;
-    if !shown.is_all() {
+    push_held(out, alloc, told, view)?;
+    if !view.shown.is_all() {
         return Ok(());
     }
     push_heading(out, alloc, "\nNames that clash", told.clashes.len())?;
@@ -306,7 +348,7 @@ fn push_link(
         "\nImports that nothing held uses",
         told.unused.len(),
     )?;
-    push_unused(out, told, &told.unused)
+    push_unused(out, alloc, told, view)
 }
 
 /// Writes what was loaded until a link was refused.
@@ -314,7 +356,7 @@ fn push_until(
     out: &mut String,
     alloc: Global,
     told: &Explanation,
-    shown: Shown<'_>,
+    view: View<'_>,
 ) -> Result<(), AllocError> {
     if told.until.is_none() {
         return Ok(());
@@ -325,14 +367,21 @@ fn push_until(
         "\nModules that were loaded until then",
         loaded_in(told).len(),
     )?;
-    push_modules(out, alloc, told, shown)
+    push_modules(out, alloc, told, view)
 }
 
-/// The explanation as plain text with headings: of a link all of it, or what is asked for.
-pub fn text_of(alloc: Global, told: &Explanation, shown: Shown<'_>) -> Result<String, AllocError> {
+/// The explanation as plain text with headings: of a link all of it, or what is asked for, with the places that are known. Refused for
+/// want of memory alone.
+pub fn text_of<'v>(
+    alloc: Global,
+    told: &Explanation,
+    shown: Shown<'v>,
+    places: Places<'v>,
+) -> Result<String, AllocError> {
+    let view = View { shown, places };
     let mut out = String::new(alloc);
     if !told.modules.is_empty() {
-        push_link(&mut out, alloc, told, shown)?;
+        push_link(&mut out, alloc, told, view)?;
     }
     if told.faults.is_empty() {
         return Ok(out);
@@ -340,7 +389,7 @@ pub fn text_of(alloc: Global, told: &Explanation, shown: Shown<'_>) -> Result<St
     if !told.modules.is_empty() {
         out.push_str("\n")?;
     }
-    push_faults(&mut out, alloc, told)?;
-    push_until(&mut out, alloc, told, shown)?;
+    push_faults(&mut out, alloc, told, &places)?;
+    push_until(&mut out, alloc, told, view)?;
     Ok(out)
 }
