@@ -1,10 +1,16 @@
 """The shapes of so many parts by which `bench/hostile --growth` looks how work and memory grow.
 
 `linked()` are bundles for `wesl-link`, `explained()` such for `wesl-explain`. Of each shape there is its name, how many parts it
-has at first, a call that makes the bundle of so many parts, and whether the bundle is refused.
+has at first, a call that makes the bundle of so many parts, whether the bundle is refused, and how many bytes of memory it may
+take for each of its bytes.
 """
 import json
 from typing import Callable, NamedTuple
+
+
+# How many bytes of memory a shape may take for each of its bytes, and one whose conditions name sixteen flags that are kept.
+BYTES_AT_MOST = 250
+SETS_AT_MOST = 40
 
 
 class Shape(NamedTuple):
@@ -12,6 +18,7 @@ class Shape(NamedTuple):
     count: int
     make: Callable[[int], bytes]
     is_refused: bool = False
+    memory: int = BYTES_AT_MOST
 
 
 def text(value):
@@ -272,10 +279,10 @@ def long_paths():
     yield Shape("a long path and lists in one another", 1000, lambda count: main_of_uses(
         ["x"], imports=inside(under("package", count), in_one_another(number("f", count)))
     ))
-    yield Shape("a long path and a list of items behind equal paths", 1000, lambda count: main_of_uses(
+    yield Shape("a long path and a list of items behind equal paths", 150, lambda count: main_of_uses(
         ["x"], imports=inside(under("package", count), listed(number("f", count), ["q"]))
     ))
-    yield Shape("a long path and a list of items behind paths of their own", 1000, lambda count: main_of_uses(
+    yield Shape("a long path and a list of items behind paths of their own", 150, lambda count: main_of_uses(
         ["x"],
         imports=inside(
             under("package", count), {"list": [{"path": [f"q{place}"], "content": {"item": f"f{place}"}} for place in range(count)]}
@@ -289,33 +296,33 @@ def long_paths():
     beside = lambda count: [items(f"{under('package', count - 1)}::m", ["f"])]
     many = lambda path, count: [one(path, "f", name) for name in number("f", count)]
     for what, path in (("super", "super::m"), ("self", "self::m")):
-        yield Shape(f"imports by {what} in a module with a long path", 500, lambda count, path=path: deep_root(
+        yield Shape(f"imports by {what} in a module with a long path", 150, lambda count, path=path: deep_root(
             count, beside(count), imports=many(path, count), declarations=[const("k", "f0" if path == "super::m" else True)]
         ))
-        yield Shape(f"imports of many modules by {what} in a module with a long path", 500, lambda count, path=path: deep_root(
+        yield Shape(f"imports of many modules by {what} in a module with a long path", 150, lambda count, path=path: deep_root(
             count, imports=[one(f"{path}{place}", "f", f"f{place}") for place in range(count)], declarations=[const("k")]
         ))
-    yield Shape("a list of items by super in a module with a long path, each used", 500, lambda count: deep_root(
+    yield Shape("a list of items by super in a module with a long path, each used", 150, lambda count: deep_root(
         count,
         [items(f"{under('package', count - 1)}::m", ["f"])],
         imports=inside("super::m", {"list": [{"content": {"item": "f", "as": name}} for name in number("f", count)]}),
         declarations=[function("k", *({"k": "call", "call": {"ty": name}} for name in number("f", count)))],
     ))
-    yield Shape("references by super in a module with a long path", 500, lambda count: deep_root(
+    yield Shape("references by super in a module with a long path", 150, lambda count: deep_root(
         count, beside(count), declarations=[function("k", *({"k": "call", "call": {"ty": at("super::m", "f")}} for _ in range(count)))]
     ))
-    yield Shape("references by package in a module with a long path", 500, lambda count: deep_root(
+    yield Shape("references by package in a module with a long path", 150, lambda count: deep_root(
         count,
         [items("package::m", ["f"])],
         declarations=[function("k", *({"k": "call", "call": {"ty": at("package::m", "f")}} for _ in range(count)))],
     ))
-    yield Shape("references to free names in a module with a long path", 500, lambda count: deep_root(
+    yield Shape("references to free names in a module with a long path", 150, lambda count: deep_root(
         count, declarations=[function("k", *({"k": "call", "call": {"ty": name}} for name in number("x", count)))]
     ))
-    yield Shape("references under an import of a module with a long path", 500, lambda count: main_of_uses(
+    yield Shape("references under an import of a module with a long path", 150, lambda count: main_of_uses(
         [at("q", "f")] * count, [items(f"{under('package', count)}::q", ["f"])], inside(under("package", count), {"item": "q"})
     ))
-    yield Shape("references under an import of a module with a long path, each to another module", 300, lambda count: main_of_uses(
+    yield Shape("references under an import of a module with a long path, each to another module", 150, lambda count: main_of_uses(
         [True],
         declarations=[const(f"u{place}", at(f"q::r{place}", "f")) for place in range(count)],
         imports=inside(under("package", count), {"item": "q"}),
@@ -327,7 +334,7 @@ def long_paths():
             function("k", *({"k": "call", "call": {"ty": at("::".join(["super"] * count) + "::m", "f")}} for _ in range(count)))
         ],
     ))
-    yield Shape("re-exports by super from a module with a long path", 300, lambda count: bundle(
+    yield Shape("re-exports by super from a module with a long path", 150, lambda count: bundle(
         module("package::main", declarations=[const("k", at(under("package", count), "f0"))]),
         module(under("package", count), imports=[imported("super::m", listed(number("f", count)), "publish")]),
         items(f"{under('package', count - 1)}::m", ["f0"]),
@@ -478,26 +485,28 @@ def conditions():
     )
     all_flags = number("F", 16)
     rest = [const("x", attrs=[on_way(0, 16)])]
-    few = lambda place: both(all_flags[place % 16], all_flags[place // 16 % 16])
-    yield Shape("conditions of two of sixteen flags", 250, lambda count: kept(
-        rest + [const("k", "f", attrs=[when(both("F0", few(place)))]) for place in range(count)]
-    ))
-    yield Shape("conditions of one of sixteen flags", 250, lambda count: kept(
-        rest + [const("k", "f", attrs=[when("F0")]) for place in range(count)]
-    ))
-    yield Shape("conditions of sixteen flags", 60, lambda count: kept(
-        rest + [const("k", "f", attrs=[on_way(2 * place + 1, 16)]) for place in range(count)]
-    ))
-    yield Shape("statements under conditions of two of sixteen flags", 250, lambda count: kept(
-        rest + [function("k", *({"k": "call", "call": {"ty": "x"}, "attrs": [when(few(place))]} for place in range(count)))]
-    ))
-    yield Shape("statements with a use of a split name, under conditions of two of sixteen flags", 250, lambda count: kept(
-        rest + [function("k", *({"k": "call", "call": {"ty": "f"}, "attrs": [when(both("F0", few(place)))]} for place in range(count)))]
-    ))
+    few = lambda place: both(all_flags[place % 16], both(all_flags[place // 16 % 16], is_not(all_flags[(place // 256 + 1) % 16])))
+    uses_under = lambda conditions: [const("k", "f", attrs=[when(condition)]) for condition in conditions]
+    calls_under = lambda name, conditions: [
+        function("k", *({"k": "call", "call": {"ty": name}, "attrs": [when(condition)]} for condition in conditions))
+    ]
+    yield Shape("uses under conditions of three of sixteen flags", 250, lambda count: kept(
+        rest + uses_under(both("F0", few(place)) for place in range(count))
+    ), memory=SETS_AT_MOST)
+    yield Shape("uses under one of sixteen flags", 250, lambda count: kept(rest + uses_under(["F0"] * count)), memory=SETS_AT_MOST)
+    yield Shape("uses under conditions of sixteen flags", 60, lambda count: kept(
+        rest + uses_under(way(2 * place + 1, 16) for place in range(count))
+    ), memory=SETS_AT_MOST)
+    yield Shape("statements under conditions of three of sixteen flags", 250, lambda count: kept(
+        rest + calls_under("x", map(few, range(count)))
+    ), memory=SETS_AT_MOST)
+    yield Shape("statements with a use of a split name, under conditions of three of sixteen flags", 250, lambda count: kept(
+        rest + calls_under("f", (both("F0", few(place)) for place in range(count)))
+    ), memory=SETS_AT_MOST)
     chain = lambda count: [{"k": "elif" if place else "if", "expr": both("F0", few(place))} for place in range(count)]
     yield Shape("branches of one chain over sixteen flags", 250, lambda count: kept(
         rest + [const("y", attrs=[attribute]) for attribute in chain(count)]
-    ))
+    ), memory=SETS_AT_MOST)
 
 
 # What is validated.
@@ -545,8 +554,8 @@ def validated():
     counts = lambda count: [taking("f", place, attrs=[on_way(place)]) for place in range(root_of(count))]
     yield Shape("calls of functions of many counts of parameters", 400, lambda count: bundle(
         module("package::main", declarations=[
-            *(taking(f"f{place}", place) for place in range(root_of(count))),
-            *(const(f"k{place}", call(f"f{place}", *[True] * place)) for place in range(root_of(count))),
+            *(taking(f"g{place}", place) for place in range(root_of(count))),
+            *(const(f"k{place}", call(f"g{place}", *[True] * place)) for place in range(root_of(count))),
         ]),
         keep=number("k", root_of(count)), builtins=BUILTINS,
     ))
@@ -811,6 +820,12 @@ def refused_names():
     yield Shape("kept names that are missing", 300, lambda count: bundle(items("package::main", ["x"]), keep=number("k", count)), True)
     yield Shape("kept names that are missing, with a path of many modules listed", 300, lambda count: bundle(
         items("package::main", ["x"]), *(items(path, ["x"]) for path in number("package::m", count)), keep=number("k", count)
+    ), True)
+    many = lambda count: [imported("package::a", {"item": "f"})] * count
+    yield Shape("a name that is not published, with as many binders, that many modules ask for", 150, lambda count: main_of_uses(
+        [at(path, "k") for path in number("package::n", count)],
+        [module(path, declarations=[const("k", at("package::m", "f"))]) for path in number("package::n", count)]
+        + [module("package::m", imports=many(count))],
     ), True)
     yield Shape("names that are not published", 300, lambda count: main_of_uses(
         missing(number("f", count)), [module("package::m", imports=[imported("package::a", listed(number("f", count)))])]
