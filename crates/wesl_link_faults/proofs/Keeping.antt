@@ -8,6 +8,7 @@ use Rattle.wesl_link_reach.specs.Asked.{Gains}
 use Rattle.wesl_link_reach.specs.Faults.{AreDistinct, Clashes}
 use Rattle.wesl_link_reach.specs.Faults.AreDistinct.{none as none_distinct}
 use Rattle.wesl_link_reach.proofs.Growing.{first_more}
+use Rattle.wesl_link_faults.proofs.Clashing.{imports_clear}
 use Rattle.wesl_link_faults.specs.declared.told.Told.{Told}
 use Rattle.wesl_link_faults.specs.Flaws.{IsClashOf, IsSeen, clash_told}
 
@@ -48,9 +49,12 @@ module _ {P N : Type 0} (t : Table P N) where
       named n i e h = subst (λ (x : N). Contains to (clash_told t x)) e h
 
       told : (n : N) → Clashes t n → Contains to (clash_told t n)
-      told n (inl (i, j, (held, e), (held2, f), meet, differ)) = elim (telling.seen i (whole i held)) [
-        | inl h ↦ named n i e h
-        | inr alone ↦ absurd (differ (alone.1 j (held2, f ∙ sym e) meet))
+      told n (inl (i, j, first, second, meet, differ)) = elim (telling.seen i (whole i first.0)) [
+        | inl h ↦ named n i first.1 h
+        | inr alone ↦ elim (telling.seen j (whole j second.0)) [
+          | inl h ↦ named n j second.1 h
+          | inr alone2 ↦ absurd (differ (imports_clear t n i j first second meet alone.1 alone2.1))
+        ]
       ]
       told n (inr (d, i, held, is_named, (held2, e), meet, other)) = elim (telling.seen i (whole i held2)) [
         | inl h ↦ named n i e h

@@ -7,6 +7,7 @@ pub mod Searching
 pub mod Closing
 pub mod Placing
 pub mod Over
+pub mod Clashing
 pub mod Keeping
 pub mod Walking
 pub mod Taking

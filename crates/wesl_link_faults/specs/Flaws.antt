@@ -4,10 +4,10 @@ use Rattle.wesl_link_symbols.specs.declared.symbols.Answer.TheVariants.{Declared
 use Rattle.wesl_link_symbols.specs.declared.symbols.Import.{Import}
 use Rattle.wesl_link_symbols.specs.declared.symbols.LookUp.{LookUp}
 use Rattle.wesl_link_symbols.specs.Tables.{Table}
-use Rattle.wesl_link_symbols.specs.Names.{Answers, IsOwn}
+use Rattle.wesl_link_symbols.specs.Names.{Answers, Imports, SameTarget}
 use Rattle.wesl_link_reach.specs.World.{IsAt, WalksTo, EndsWith, LeadsTo, IsMissingAt, IsPrivateAt, Task, Entered}
 use Rattle.wesl_link_reach.specs.Faults.{Clashes}
-use Rattle.wesl_link_reach.specs.Clashing.{MeetsNoDeclaration, MeetsNoOther}
+use Rattle.wesl_link_reach.specs.Clashing.{IsAlone}
 use Rattle.wesl_link_reach.specs.Trodden.{symbol_of}
 use Rattle.wesl_link_faults.specs.declared.asker.Asker.{Asker}
 use Rattle.wesl_link_faults.specs.declared.asker.Asker.TheVariants.{Whole}
@@ -21,9 +21,9 @@ use Rattle.wesl_link_faults.specs.Askers.{AsksBy, Brings, IsUnclearBy}
 -- ---- in one module
 
 module _ {P N : Type 0} where
-  -- its target is that of the binders of its name that are there at once
-  abbrev pub IsAlone : Table P N → Import P N → Type 0
-  IsAlone t i = (IsOwn t.path i ⊎ MeetsNoDeclaration t i) × MeetsNoOther t i
+  -- an import of its name has another target
+  abbrev pub DiffersFromOther : Table P N → Import P N → Type 0
+  DiffersFromOther t i = (j : Import P N) × Imports t i.bound j × (SameTarget i j → ⊥)
 
   -- what is told of a name of the module that clashes
   abbrev pub clash_told : Table P N → N → Told P N

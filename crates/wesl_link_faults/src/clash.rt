@@ -1,11 +1,12 @@
 //! The names of a module that clash.
-ghost use Rattle.std.specs.Prelude.{◌⊎◌, ◌↔◌, IsTrue, IsFalse, OnOk, Contains};
-ghost use Rattle.wesl_link_symbols.specs.Names.{SameTarget, IsOwn};
+ghost use Rattle.std.specs.Prelude.{◌≡◌, ◌⊎◌, IsTrue, IsFalse, OnOk, Contains};
+ghost use Rattle.wesl_cond_choices.specs.declared.place.Place.TheVariants.{Always};
+ghost use Rattle.wesl_link_symbols.specs.Names.{IsOwn};
 ghost use Rattle.wesl_link_reach.specs.Asked.{Gains};
-ghost use Rattle.wesl_link_reach.specs.Clashing.{AreApart, MeetsDeclaration, MeetsNoDeclaration, MeetsOther, MeetsNoOther};
-ghost use Rattle.wesl_link_reach.specs.Faults.{Clashes, Meet};
+ghost use Rattle.wesl_link_reach.specs.Clashing.{IsAlone, IsLikeLast, MeetsDeclaration, MeetsNoDeclaration, MeetsOther, MeetsNoOther};
+ghost use Rattle.wesl_link_reach.specs.Faults.{Clashes};
 ghost use Rattle.wesl_link_faults.specs.Keys.{AreKeys};
-ghost use Rattle.wesl_link_faults.specs.Flaws.{IsAlone, IsClashOf, IsSeen, KeepsTold, TellsOnly};
+ghost use Rattle.wesl_link_faults.specs.Flaws.{DiffersFromOther, IsClashOf, IsSeen, KeepsTold, TellsOnly};
 
 use crate::asker::Asker;
 use crate::keys::{self, Keys};
@@ -17,53 +18,49 @@ use wesl_link_symbols::ids::{NameId, PathId};
 use wesl_link_symbols::symbols::Import;
 use wesl_link_symbols::table::Table;
 
-/// Whether what stands at the two places is there at once for some choice of flags, or one of them always.
-fn meet(table: &Table, first: Place, second: Place) -> bool
-    ensures { IsTrue result ↔ Meet table.now first second }
+/// Whether an import is there for each choice of flags.
+fn stands_always(import: &Import<PathId, NameId>) -> bool
+    ensures yes { IsTrue result → import.now.place ≡ Always }
+    ensures no { IsFalse result → import.now.place ≡ Always → ⊥ }
 {
-    first == Place::Always || table.sees(first, second)
+    import.place == Place::Always
 }
 
-/// Whether a declaration of the import's name is there at once with it.
+/// Whether a declaration of the import's name is there at once with it. Where the import is there always, each of them is.
 fn meets_declaration(table: &Table, import: &Import<PathId, NameId>) -> bool
     ensures yes { IsTrue result → MeetsDeclaration table.now import.now }
     ensures no { IsFalse result → MeetsNoDeclaration table.now import.now }
 {
-    let mut at = table.latest_of(Some(import.bound));
-    'declarations: while let Some(index) = at {
-        if meet(table, table.declarations()[index].place(), import.place) {
-            return true;
-        }
-        at = table.earlier_of(index, Some(import.bound));
+    if stands_always(import) {
+        return table.declares(import.bound);
     }
-    false
+    table.sees_declaration(import.bound, import.place)
 }
 
-/// Whether two imports are there at once and have different targets.
-fn are_apart(table: &Table, first: &Import<PathId, NameId>, second: &Import<PathId, NameId>) -> bool
-    ensures yes { IsTrue result → AreApart table.now first.now second.now }
-    ensures no { IsFalse result → Meet table.now first.now.place second.now.place → SameTarget first.now second.now }
+/// Whether the last import of the name has another target than this one.
+fn differs_from_last(table: &Table, import: &Import<PathId, NameId>) -> bool
+    requires { Contains table.now.imports import.now }
+    ensures yes { IsTrue result → DiffersFromOther table.now import.now }
+    ensures no { IsFalse result → IsLikeLast table.now import.now }
 {
-    meet(table, first.place, second.place) && !same_target(first, second)
+    match table.latest_import_of(import.bound) {
+        Some(index) => !same_target(import, &table.imports()[index]),
+        None => false,
+    }
 }
 
-/// Whether an import of the same name that is there at once has another target.
+/// Whether an import of the same name that is there at once has another target. Where this one is there always, each of another
+/// target is; and one that has the target of the last is not asked, since one of another target then meets it.
 fn meets_import(table: &Table, import: &Import<PathId, NameId>) -> bool
+    requires { Contains table.now.imports import.now }
     ensures yes { IsTrue result → MeetsOther table.now import.now }
-    ensures no { IsFalse result → MeetsNoOther table.now import.now }
+    ensures no { IsFalse result → IsLikeLast table.now import.now ⊎ MeetsNoOther table.now import.now }
 {
-    let mut at = table.latest_import_of(import.bound);
-    'imports: while let Some(index) = at {
-        if are_apart(table, import, &table.imports()[index]) {
-            return true;
-        }
-        at = table.earlier_import_of(index, import.bound);
-    }
-    false
+    differs_from_last(table, import) && (stands_always(import) || table.sees_other(import))
 }
 
 /// Whether a declaration of the import's name is there at once with it, and the import aims elsewhere. Only where the import
-/// aims elsewhere are the declarations gone over.
+/// aims elsewhere are the declarations asked for.
 fn clashes_with_declaration(table: &Table, import: &Import<PathId, NameId>) -> bool
     ensures yes { IsTrue result → (IsOwn table.now.path import.now → ⊥) × MeetsDeclaration table.now import.now }
     ensures no { IsFalse result → IsOwn table.now.path import.now ⊎ MeetsNoDeclaration table.now import.now }
