@@ -1,102 +1,114 @@
 //! Faults that are told as one: those of one ring, and a clash with the uses of its name.
 
 use std::alloc::{AllocError, Global};
-use wesl_explain_world::{Explanation, Fault, Flaw, LinkFault, NameId, PathId, Symbol, Use};
+use std::collections::HashMap;
+use wesl_explain_world::{Explanation, Fault, Flaw, LinkFault, NameId, PathId, Symbol, Use, Wrong};
+use wesl_link_symbols::keyed;
 
-/// Whether a question is one of these.
-fn has(ring: &[Symbol<PathId, NameId>], wanted: Symbol<PathId, NameId>) -> bool {
-    for question in ring {
-        if *question == wanted {
-            return true;
-        }
-    }
-    false
+/// Where the fault of a ring stands, and how many questions the ring has.
+#[derive(Clone, Copy, Drop)]
+struct Ring {
+    place: usize,
+    length: usize,
 }
 
-/// Whether two faults are of one ring.
-fn are_of_one_ring(first: &LinkFault, second: &LinkFault) -> bool {
-    match first.ring.first() {
-        Some(question) => { first.ring.len() == second.ring.len() && has(&second.ring, *question) }
-        None => false,
-    }
+/// The faults so far by their numbers, those that are told as one together, and where those stand that others are told with.
+#[derive(Drop)]
+struct Apart {
+    groups: Vec<Vec<usize>>,
+    clashes: HashMap<Wrong, usize>,
+    /// Each by the first of its questions.
+    rings: HashMap<Symbol<PathId, NameId>, Ring>,
 }
 
-/// Whether the second fault is that the name of a clash is used.
-fn is_use_of(first: &LinkFault, second: &LinkFault) -> bool {
-    match (first.wrong.flaw, second.wrong.flaw) {
-        (Flaw::Clash(name), Flaw::Unsure(used)) => {
-            name == used && first.wrong.at == second.wrong.at
-        }
-        _ => false,
-    }
-}
-
-/// Whether the second fault is told with the first.
-fn are_one(first: &Fault, second: &Fault) -> bool {
-    match (&first.link, &second.link) {
-        (Some(first), Some(second)) => {
-            are_of_one_ring(first, second) || is_use_of(first, second)
-        }
-        _ => false,
-    }
-}
-
-/// Whether others may be told with a fault, or it with another.
-fn may_be_joined(fault: &Fault) -> bool {
-    match &fault.link {
-        Some(link) => match link.wrong.flaw {
-            Flaw::Clash(_) | Flaw::Unsure(_) => true,
-            Flaw::Lacking(_) => !link.ring.is_empty(),
-            Flaw::NoModule | Flaw::Hidden(_) => false,
-        },
-        None => false,
-    }
-}
-
-/// Whether a fault is told with one of those before it.
-fn is_told(before: &[Fault], fault: &Fault) -> bool {
-    if !may_be_joined(fault) {
-        return false;
-    }
-    for earlier in before {
-        if are_one(earlier, fault) {
-            return true;
-        }
-    }
-    false
-}
-
-/// The faults that are told by themselves.
-pub fn apart(alloc: Global, told: &Explanation) -> Result<Vec<usize>, AllocError> {
-    let mut found = Vec::new(alloc);
-    for (index, fault) in told.faults.iter().enumerate() {
-        if let Some(before) = told.faults.get(..index) {
-            if !is_told(before, fault) {
-                found.push(index)?;
+impl Apart {
+    /// Where the fault of this ring stands, if it was met.
+    fn ring_of(&self, ring: &[Symbol<PathId, NameId>]) -> Option<usize> {
+        for question in ring {
+            match keyed::value_at(&self.rings, *question) {
+                Some(met) if met.length == ring.len() => return Some(met.place),
+                _ => {}
             }
         }
+        None
     }
-    Ok(found)
+
+    /// Where a fault stands that this one is told with, if there is one.
+    fn place_of(&self, link: &LinkFault) -> Option<usize> {
+        let at = link.wrong.at;
+        match link.wrong.flaw {
+            Flaw::Unsure(name) => {
+                let flaw = Flaw::Clash(name);
+                keyed::value_at(&self.clashes, Wrong { flaw, at })
+            }
+            _ => self.ring_of(&link.ring),
+        }
+    }
+
+    /// Puts down that others may be told with a fault.
+    fn note(&mut self, link: &LinkFault, place: usize) -> Result<(), AllocError> {
+        if let Some(question) = link.ring.first() {
+            let length = link.ring.len();
+            keyed::put(&mut self.rings, *question, Ring { place, length })?;
+        }
+        keyed::put(&mut self.clashes, link.wrong, place)
+    }
+
+    /// Adds a fault to those at a place, or by itself.
+    fn add(&mut self, alloc: Global, place: Option<usize>, index: usize) -> Result<(), AllocError> {
+        if let Some(place) = place {
+            if let Some(group) = self.groups.get_mut(place) {
+                return Ok(group.push(index)?);
+            }
+        }
+        let mut group = Vec::new(alloc);
+        group.push(index)?;
+        Ok(self.groups.push(group)?)
+    }
+
+    /// Adds a fault of a link to those that it is told with, or by itself.
+    fn join(&mut self, alloc: Global, link: &LinkFault, index: usize) -> Result<(), AllocError> {
+        let place = self.place_of(link);
+        if place.is_none() {
+            self.note(link, self.groups.len())?;
+        }
+        self.add(alloc, place, index)
+    }
 }
 
-/// Adds who asks for a fault.
-fn add_uses(fault: &Fault, uses: &mut Vec<Use>) -> Result<(), AllocError> {
-    match &fault.link {
-        Some(link) => uses.extend_from_slice(&link.uses),
-        None => Ok(()),
+/// The faults by their numbers, those that are told as one together.
+pub fn apart(alloc: Global, told: &Explanation) -> Result<Vec<Vec<usize>>, AllocError> {
+    let mut found = Apart {
+        groups: Vec::new(alloc),
+        clashes: HashMap::new(alloc),
+        rings: HashMap::new(alloc),
+    };
+    for (index, fault) in told.faults.iter().enumerate() {
+        match &fault.link {
+            Some(link) => found.join(alloc, link, index)?,
+            None => found.add(alloc, None, index)?,
+        }
     }
+    let Apart {
+        groups,
+        clashes: _,
+        rings: _,
+    } = found;
+    Ok(groups)
 }
 
-/// Who asks for a fault, and for those behind it that are told with it.
-pub fn uses_of(alloc: Global, fault: &Fault, behind: &[Fault]) -> Result<Vec<Use>, AllocError> {
+/// Who asks for faults that are told as one.
+pub fn uses_of(alloc: Global, told: &Explanation, group: &[usize]) -> Result<Vec<Use>, AllocError> {
     let mut uses = Vec::new(alloc);
-    add_uses(fault, &mut uses)?;
-    if !may_be_joined(fault) {
-        return Ok(uses);
-    }
-    for other in behind {
-        if are_one(fault, other) {
-            add_uses(other, &mut uses)?;
+    for index in group {
+        match told.faults.get(*index) {
+            Some(
+                Fault {
+                    link: Some(link),
+                    ..
+                },
+            ) => uses.extend_from_slice(&link.uses)?,
+            _ => {}
         }
     }
     Ok(uses)

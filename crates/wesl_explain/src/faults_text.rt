@@ -26,54 +26,52 @@ fn push_line(out: &mut String, alloc: Global, line: &FaultLine) -> Result<(), Al
     Ok(())
 }
 
-/// Writes a fault, with who asks for it and what helps. `behind` are the faults after it.
+/// Writes a fault, with who asks for it and for those that are told with it, and what helps.
 fn push_fault(
     out: &mut String,
     alloc: Global,
     told: &Explanation,
     fault: &Fault,
-    behind: &[Fault],
+    group: &[usize],
 ) -> Result<(), AllocError> {
     let Some(link) = &fault.link else {
         return push_line(out, alloc, &fault.line);
     };
-    let uses = uses_of(alloc, fault, behind)?;
+    let uses = uses_of(alloc, told, group)?;
     push_head(out, alloc, told, fault, link)?;
     push_uses(out, alloc, told, &uses)?;
     push_cures(out, link)
 }
 
-/// The faults from one on.
-fn behind_of(faults: &[Fault], index: usize) -> Option<(&Fault, &[Fault])> {
-    match faults.get(index..) {
-        Some(rest) => rest.split_first(),
-        None => None,
-    }
+/// The first of faults that are told as one.
+fn first_of<'t>(told: &'t Explanation, group: &[usize]) -> Option<&'t Fault> {
+    let index = group.first()?;
+    told.faults.get(*index)
 }
 
-/// Writes the fault with an index, under a number.
+/// Writes faults that are told as one, under a number.
 fn push_numbered(
     out: &mut String,
     alloc: Global,
     told: &Explanation,
     number: usize,
-    index: usize,
+    group: &[usize],
 ) -> Result<(), AllocError> {
-    let Some((fault, behind)) = behind_of(&told.faults, index) else {
+    let Some(fault) = first_of(told, group) else {
         return Ok(());
     };
     let number = number.to_string(alloc)?;
     out.push_str(number.as_str())?;
     out.push_str("  ")?;
-    push_fault(out, alloc, told, fault, behind)
+    push_fault(out, alloc, told, fault, group)
 }
 
 /// Writes the faults, each with its number.
 pub fn push_faults(out: &mut String, alloc: Global, told: &Explanation) -> Result<(), AllocError> {
-    let indexes = apart(alloc, told)?;
-    push_heading(out, alloc, "Refused, faults", indexes.len())?;
-    for (place, index) in indexes.iter().enumerate() {
-        push_numbered(out, alloc, told, place.saturating_add(1), *index)?;
+    let groups = apart(alloc, told)?;
+    push_heading(out, alloc, "Refused, faults", groups.len())?;
+    for (place, group) in groups.iter().enumerate() {
+        push_numbered(out, alloc, told, place.saturating_add(1), group)?;
     }
     Ok(())
 }

@@ -2,11 +2,12 @@
 ghost use Rattle.std.specs.Prelude.{◌≡◌};
 ghost use Rattle.wesl_link_faults.specs.Searching.{IsReady};
 
-use crate::way::way_of;
+use crate::way::question;
 use std::alloc::{AllocError, Global};
 use std::collections::HashMap;
 use wesl_cond_choices::place::Place;
 use wesl_link_faults::given::{Given, ask};
+use wesl_link_faults::told::End;
 use wesl_link_reasons::found::Found;
 use wesl_link_reasons::node::Node;
 use wesl_link_symbols::ids::{NameId, PathId};
@@ -26,6 +27,8 @@ pub struct HeldNodes {
 struct Search {
     held: HeldNodes,
     followed: HashMap<LookUp<PathId, NameId>, usize>,
+    /// Those that came to an end, asked for or on the way of others: all that they lead to is held.
+    settled: HashMap<LookUp<PathId, NameId>, bool>,
 }
 
 impl HeldNodes {
@@ -89,22 +92,26 @@ impl HeldNodes {
         }
         Ok(())
     }
-
-    /// Adds what the way of a look-up brings: the modules that it comes to.
-    fn note_modules(
-        &mut self,
-        look_ups: &[LookUp<PathId, NameId>],
-        asker: usize,
-    ) -> Result<(), AllocError> {
-        for look_up in look_ups {
-            self.note(Node::Module(look_up.path), Some(asker))?;
-        }
-        Ok(())
-    }
 }
 
 impl Search {
-    /// Follows a look-up of the node at a place.
+    /// Notes that all is held which these look-ups lead to.
+    fn settle(&mut self, look_ups: &[LookUp<PathId, NameId>]) -> Result<(), AllocError> {
+        for look_up in look_ups {
+            keyed::put(&mut self.settled, *look_up, true)?;
+        }
+        Ok(())
+    }
+
+    /// Adds the symbol that a look-up ends with, where it leads to one.
+    fn note_end(&mut self, end: End<PathId, NameId>, asker: usize) -> Result<(), AllocError> {
+        match end {
+            End::Found(symbol) => self.held.note(Node::Item(symbol), Some(asker)),
+            End::Flawed(_, _) => Ok(()),
+        }
+    }
+
+    /// Follows a look-up of the node at a place to its end, or to one that settled: adds the modules on the way, and the symbol.
     fn walk(
         &mut self,
         alloc: Global,
@@ -114,10 +121,26 @@ impl Search {
     ) -> Result<(), AllocError>
         requires ready { IsReady given.now }
     {
-        let way = way_of(alloc, given, start)?;
-        self.held.note_modules(&way.look_ups, place)?;
-        if let Some(symbol) = way.symbol {
-            self.held.note(Node::Item(symbol), Some(place))?;
+        let mut met = Vec::new(alloc);
+        let mut asked = HashMap::new(alloc);
+        let mut current = start;
+        for _ in 0..usize::MAX {
+            if keyed::value_at(&self.settled, current).is_some() {
+                return self.settle(&met);
+            }
+            self.held.note(Node::Module(current.path), Some(place))?;
+            if keyed::value_at(&asked, question(current)).is_some() {
+                return Ok(());
+            }
+            keyed::put(&mut asked, question(current), true)?;
+            met.push(current)?;
+            match given.hop(current) {
+                Ok(next) => current = next,
+                Err(end) => {
+                    self.note_end(end, place)?;
+                    return self.settle(&met);
+                }
+            }
         }
         Ok(())
     }
@@ -278,10 +301,15 @@ pub fn held_nodes(alloc: Global, given: &Given<'_>) -> Result<HeldNodes, AllocEr
     let mut search = Search {
         held: HeldNodes::new(alloc),
         followed: HashMap::new(alloc),
+        settled: HashMap::new(alloc),
     };
     search.held.note_first(given)?;
     search.take_all(alloc, given)?;
-    let Search { held, followed: _ } = search;
+    let Search {
+        held,
+        followed: _,
+        settled: _,
+    } = search;
     Ok(held)
 }
 

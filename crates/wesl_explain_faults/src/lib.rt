@@ -24,6 +24,6 @@ pub use refused::{HeldUntil, LinkFault, RefusedLink, refused_link};
 pub use targets::Target;
 pub use texts::Texts;
 pub use uses::Use;
-pub use way::{Way, way_of};
+pub use way::way_of;
 pub use wesl_link_faults::asker::Asker;
 pub use wesl_link_faults::told::Flaw;

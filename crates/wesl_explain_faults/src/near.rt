@@ -6,6 +6,7 @@ use strsim::levenshtein;
 use wesl_link_symbols::ids::{NameId, PathId};
 use wesl_link_symbols::symbols::Symbol;
 use wesl_link_symbols::table::Table;
+use wesl_tree::Interner;
 
 // How many edits may lead from one name to the other, and how many where the name has three letters or fewer.
 const EDITS: usize = 2;
@@ -17,15 +18,15 @@ const FEW_LETTERS: usize = 3;
 // A longer name is not compared.
 const LONGEST: usize = 64;
 
-// How many names are looked at in all, and how many of them are compared letter by letter.
-const LOOKS: usize = 4_000_000;
+// How many names are looked at for each of so many, and how many of them are compared letter by letter.
+const LOOKS: usize = 64;
 
-const COMPARISONS: usize = 50_000;
+const COMPARISONS: usize = 16;
 
-/// A path of a list by its number, and how many edits lead to it.
+/// The text of a path, and how many edits lead to it.
 #[derive(Clone, Copy)]
-struct NearPath {
-    number: usize,
+struct NearPath<'t> {
+    text: &'t str,
     edits: usize,
 }
 
@@ -45,7 +46,7 @@ struct Wanted<'w> {
     edits: usize,
 }
 
-/// Looks for near names. It looks at a fixed number of names in all, and finds none after that.
+/// Looks for near names. It looks at names in proportion to how many there are, and finds none after that.
 #[derive(Drop)]
 pub struct NearNames {
     looks: usize,
@@ -99,11 +100,11 @@ fn is_nearer(best: Option<Near>, edits: usize) -> bool {
 }
 
 impl NearNames {
-    /// No name was looked at.
-    pub fn new() -> NearNames {
+    /// No name was looked at, of so many.
+    pub fn new(count: usize) -> NearNames {
         NearNames {
-            looks: LOOKS,
-            comparisons: COMPARISONS,
+            looks: count.saturating_mul(LOOKS),
+            comparisons: count.saturating_mul(COMPARISONS),
         }
     }
 
@@ -239,14 +240,13 @@ impl NearNames {
     }
 
     /// The nearer of the one so far and a path.
-    fn nearer_path(
+    fn nearer_path<'t>(
         &mut self,
         alloc: Global,
         wanted: Wanted<'_>,
-        best: Option<NearPath>,
-        number: usize,
-        text: &str,
-    ) -> Result<Option<NearPath>, AllocError> {
+        best: Option<NearPath<'t>>,
+        text: &'t str,
+    ) -> Result<Option<NearPath<'t>>, AllocError> {
         if !self.takes_look() || !wanted.may_be(text) || !self.takes_comparison() {
             return Ok(best);
         }
@@ -256,26 +256,27 @@ impl NearNames {
             None => EDITS + 1,
         };
         if edits < least {
-            Ok(Some(NearPath { number, edits }))
+            Ok(Some(NearPath { text, edits }))
         } else {
             Ok(best)
         }
     }
 
-    /// The nearest of these paths by its number, if one is near.
+    /// The nearest of these paths, if one is near.
     pub fn nearest_path(
         &mut self,
         alloc: Global,
         wanted: &str,
-        listed: &[String],
-    ) -> Result<Option<usize>, AllocError> {
+        listed: &Interner,
+    ) -> Result<Option<String>, AllocError> {
         let wanted = Wanted::new(wanted);
         let mut best = None;
-        for (number, text) in listed.iter().enumerate() {
-            best = self.nearer_path(alloc, wanted, best, number, text.as_str())?;
+        for number in 0..listed.len() {
+            let text = listed.name(NameId(number)).unwrap_or("");
+            best = self.nearer_path(alloc, wanted, best, text)?;
         }
         match best {
-            Some(near) => Ok(Some(near.number)),
+            Some(near) => Ok(Some(String::from_str(alloc, near.text)?)),
             None => Ok(None),
         }
     }

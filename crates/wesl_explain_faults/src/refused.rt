@@ -13,7 +13,7 @@ use crate::near::NearNames;
 use crate::targets::{Target, targets_of};
 use crate::texts::Texts;
 use crate::uses::{Use, look_up_of, uses_of};
-use crate::way::{question, way_of};
+use crate::way::way_of;
 use std::alloc::{AllocError, Global};
 use std::collections::HashMap;
 use wesl_link_faults::asker::Asker;
@@ -21,7 +21,7 @@ use wesl_link_faults::given::{Given, place_all};
 use wesl_link_faults::open::Finding;
 use wesl_link_faults::told::Flaw;
 use wesl_link_symbols::ids::{NameId, PathId};
-use wesl_link_symbols::symbols::{LookUp, Symbol};
+use wesl_link_symbols::symbols::Symbol;
 use wesl_link_symbols::table::Table;
 
 /// A fault of a link, with all that is told of it.
@@ -64,18 +64,6 @@ pub struct RefusedLink {
     pub until: HeldUntil,
 }
 
-/// What is asked for on the way of a look-up.
-fn questions(
-    alloc: Global,
-    look_ups: &[LookUp<PathId, NameId>],
-) -> Result<Vec<Symbol<PathId, NameId>>, AllocError> {
-    let mut asked = Vec::with_capacity(alloc, look_ups.len())?;
-    for look_up in look_ups {
-        asked.push(question(*look_up))?;
-    }
-    Ok(asked)
-}
-
 /// The way of the first that asks: nothing where it has no look-up.
 fn first_way(
     alloc: Global,
@@ -88,10 +76,7 @@ fn first_way(
         return Ok(Vec::new(alloc));
     };
     match look_up_of(given, *first) {
-        Some(start) => {
-            let way = way_of(alloc, given, start)?;
-            questions(alloc, &way.look_ups)
-        }
+        Some(start) => way_of(alloc, given, start),
         None => Ok(Vec::new(alloc)),
     }
 }
@@ -208,7 +193,7 @@ fn told_all(
     requires ready { IsReady given.now }
     ensures { IfOk result (λ told. map link_view told.items ≡ map fault_view found.now) }
 {
-    let mut near = NearNames::new();
+    let mut near = NearNames::new(texts.name_count());
     let mut faults = Vec::with_capacity(alloc, found.len())?;
     for fault in found {
         faults.push(told_of(alloc, given, texts, read, held, &mut near, fault)?)?;

@@ -48,6 +48,11 @@ impl Texts {
         self.numbers.paths.path(id)
     }
 
+    /// How many names there are.
+    pub fn name_count(&self) -> usize {
+        self.numbers.names.len()
+    }
+
     /// A name.
     pub fn name(&self, id: NameId) -> &str {
         match self.numbers.names.name(id) {

@@ -52,7 +52,7 @@ pub fn free_in(
     unit: &TranslationUnit,
     listed: Option<&Builtins>,
 ) -> Result<Vec<FreeName>, AllocError> {
-    let mut names = NearNames::new();
+    let mut names = NearNames::new(texts.name_count());
     let mut free = Vec::new(alloc);
     for name in &undeclared(alloc, unit)? {
         if !is_built_in(listed, name) {

@@ -3,6 +3,7 @@
 #![tactic(auto)]
 
 mod asking;
+mod below;
 mod clashing;
 mod explaining;
 mod explanation;

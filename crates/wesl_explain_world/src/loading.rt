@@ -54,19 +54,20 @@ impl<'t> TableLoader<'t> {
         ensures path { IfOk result (λ t. t.path ≡ id) }
     {
         let Tabled { table, marks } = table_of(alloc, &mut self.numbers, id, path, &unit)?;
-        self.keep(id, unit, marks)?;
+        self.keep(alloc, id, unit, &marks)?;
         Ok(table)
     }
 
     /// Keeps a module that was read, where that is asked for.
     fn keep(
         &mut self,
+        alloc: Global,
         path: PathId,
         unit: TranslationUnit,
-        marks: Vec<Vec<Mark>>,
+        marks: &[Vec<Mark>],
     ) -> Result<(), AllocError> {
         match &mut self.read {
-            Some(read) => read.put(ReadModule { path, unit, marks }),
+            Some(read) => read.put(ReadModule::new(alloc, path, unit, marks)?),
             None => Ok(()),
         }
     }

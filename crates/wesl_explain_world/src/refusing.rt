@@ -21,19 +21,17 @@ use wesl_link_faults::open_table;
 use wesl_link_symbols::ids::{NameId, PathId};
 use wesl_link_symbols::table::Table;
 use wesl_program_bundle::BundleModule;
-use wesl_tree::{Diagnostic, Error, ImportError, ModulePath, ResolveError};
+use wesl_tree::{Diagnostic, Error, ImportError, Interner, ModulePath, ResolveError};
 
 /// What was found when a link went on behind its faults.
 type Found = Opened<ResolveError>;
 
-/// The texts of the paths of a bundle's modules.
-pub fn listed_paths(
-    alloc: Global,
-    modules: &[BundleModule<'_>],
-) -> Result<Vec<String>, AllocError> {
-    let mut listed = Vec::with_capacity(alloc, modules.len())?;
+/// The texts of the paths of a bundle's modules, each once.
+pub fn listed_paths(alloc: Global, modules: &[BundleModule<'_>]) -> Result<Interner, AllocError> {
+    let mut listed = Interner::new(alloc);
     for module in modules {
-        listed.push(module.path.to_text(alloc).ok().ok_or(AllocError)?)?;
+        let text = module.path.to_text(alloc).ok().ok_or(AllocError)?;
+        listed.number(text.as_str())?;
     }
     Ok(listed)
 }
@@ -132,7 +130,7 @@ struct Around<'a, 't> {
     texts: &'a Texts,
     sources: &'a mut Sources<'t>,
     /// the texts of the paths of the bundle's modules
-    listed: &'a [String],
+    listed: &'a Interner,
     max_modules: usize,
 }
 
@@ -144,26 +142,11 @@ fn is_not_found(error: &Error) -> bool {
     }
 }
 
-/// A listed path with a number.
-fn listed_at(
-    alloc: Global,
-    listed: &[String],
-    number: Option<usize>,
-) -> Result<Option<String>, AllocError> {
-    match number {
-        Some(number) => match listed.get(number) {
-            Some(text) => Ok(Some(text.clone()?)),
-            None => Ok(None),
-        },
-        None => Ok(None),
-    }
-}
-
 /// The path of a module of the bundle whose name is that of an item that is asked for in the module at a path.
 fn named_module(
     alloc: Global,
     texts: &Texts,
-    listed: &[String],
+    listed: &Interner,
     link: &LinkFault,
 ) -> Result<Option<String>, AllocError> {
     let Some(last) = link.way.last() else {
@@ -172,12 +155,11 @@ fn named_module(
     let mut wanted = String::from_str(alloc, texts.path(last.path))?;
     wanted.push_str("::")?;
     wanted.push_str(texts.name(last.name))?;
-    for path in listed {
-        if *path == wanted {
-            return Ok(Some(wanted));
-        }
+    if listed.find(wanted.as_str()).is_some() {
+        Ok(Some(wanted))
+    } else {
+        Ok(None)
     }
-    Ok(None)
 }
 
 /// The diagnostic of a fault: a name that is wrong is told with its module.
@@ -240,7 +222,6 @@ fn link_fault(
     } else {
         None
     };
-    let near_path = listed_at(alloc, around.listed, near_path)?;
     let named_module = named_module(alloc, around.texts, around.listed, &link)?;
     let conditions = conditions_at(alloc, around, &link)?;
     let diagnostic = diagnostic_of(alloc, around.texts, link.wrong, error)?;
@@ -260,7 +241,11 @@ fn link_faults(
     absences: &mut Vec<Absence<ResolveError>>,
     found: Vec<LinkFault>,
 ) -> Result<Vec<Fault>, AllocError> {
-    let mut near = NearNames::new();
+    let count = around
+        .listed
+        .len()
+        .saturating_add(around.texts.name_count());
+    let mut near = NearNames::new(count);
     let mut faults = Vec::with_capacity(alloc, found.len())?;
     for link in found {
         faults.push(link_fault(alloc, around, &mut near, absences, link)?)?;
@@ -391,7 +376,7 @@ fn explain_found(
     request: &LinkRequest<'_>,
     diagnostic: Diagnostic,
     loaded: Loaded<'_>,
-    listed: &[String],
+    listed: &Interner,
     root: PathId,
     found: Found,
     kept: &[NameId],
@@ -467,7 +452,7 @@ pub fn explain_refusal(
     request: &LinkRequest<'_>,
     diagnostic: Diagnostic,
     sources: Sources<'_>,
-    listed: &[String],
+    listed: &Interner,
 ) -> Result<Explanation, AllocError>
     requires { is_relative (path_view request.now.root.now) ≡ false }
     ensures { IfOk result TellsFaults }

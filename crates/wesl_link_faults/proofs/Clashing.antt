@@ -1,6 +1,5 @@
 -- Two imports that are alone and there at once have one target.
-use Rattle.std.proofs.Common.{◌≡◌, ◌⊎◌, inl, inr, ℕ, ◌<◌, Bool, true, false, ◌&&◌, ◌||◌, Some, List, [], ◌∷◌, length, slice_get, slice_index_or, Contains, subst, sym, refl, ap, ◌∙◌}
-use Rattle.std.proofs.lemmas.Option.{slice_get-get_or}
+use Rattle.std.proofs.Common.{◌≡◌, ◌⊎◌, inl, inr, ℕ, ◌<◌, Bool, true, false, ◌&&◌, ◌||◌, Some, List, [], ◌∷◌, length, slice_get, subst, sym, refl, ap, ◌∙◌}
 use Rattle.wesl_cond_choices.specs.declared.place.Place.{Place}
 use Rattle.wesl_cond_choices.specs.Places.{keeps, together}
 use Rattle.wesl_link_symbols.specs.Index.{Binds, IsLast}
