@@ -9,3 +9,4 @@ pub mod Unsplit
 pub mod Once
 pub mod Asked
 pub mod Anywhere
+pub mod Passing

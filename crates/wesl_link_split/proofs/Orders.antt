@@ -1,6 +1,6 @@
 -- The lowest of orders, and what has it; lists that are kept one by one.
 use Rattle.std.proofs.Common.{◌≡◌, ◌⊎◌, inl, inr, ℕ, zero, suc, ◌+◌, ◌<◌, ◌≤◌, Bool, true, false, List, [], ◌∷◌, ◌++◌, map, drop, length, get_or, arith, refl, sym, ap, ap₂, ◌∙◌}
-use Rattle.std.specs.Prelude.{Contains, nat_lt, not, ◌&&◌, ◌||◌, ◌==◌, flat_map, if◌then◌else◌}
+use Rattle.std.specs.Prelude.{Contains, nat_lt, not, ◌||◌, ◌==◌, flat_map, if◌then◌else◌}
 use Rattle.std.specs.List.{filter, list_any}
 use Rattle.std.proofs.lemmas.Bool.Decides.{Decides-eqb, Decides-ltb}
 use Rattle.wesl_tree_base.specs.declared.ids.NameId.{NameId}
@@ -30,18 +30,6 @@ filter_flat {X} p (x ∷ xs) = by (p x) (filter_flat p xs)
   where
     by : (b : Bool) → flat_map (λ y. one_if (p y) y) xs ≡ filter p xs → one_if b x ++ flat_map (λ y. one_if (p y) y) xs ≡ (if b then x ∷ filter p xs else filter p xs)
     by true e = ap (λ (l : List X). x ∷ l) e
-    by false e = e
-
-pub filter_twice : (p q : Binder PathId NameId → Bool) (bs : List (Binder PathId NameId)) → filter (λ b. p b && q b) bs ≡ filter q (filter p bs)
-filter_twice p q [] = refl
-filter_twice p q (b ∷ bs) = by (p b) (filter_twice p q bs)
-  where
-    by : (x : Bool) → filter (λ b. p b && q b) bs ≡ filter q (filter p bs) → (if x && q b then b ∷ filter (λ b. p b && q b) bs else filter (λ b. p b && q b) bs) ≡ filter q (if x then b ∷ filter p bs else filter p bs)
-    by true e = again (q b) e
-      where
-        again : (y : Bool) → filter (λ b. p b && q b) bs ≡ filter q (filter p bs) → (if y then b ∷ filter (λ b. p b && q b) bs else filter (λ b. p b && q b) bs) ≡ (if y then b ∷ filter q (filter p bs) else filter q (filter p bs))
-        again true e = ap (λ l. b ∷ l) e
-        again false e = e
     by false e = e
 
 filter_map : {X Y : Type 0} (p : Y → Bool) (f : X → Y) (xs : List X) → filter p (map f xs) ≡ map f (filter (λ x. p (f x)) xs)

@@ -5,6 +5,9 @@ use Rattle.std.specs.Global.{Vec}
 use Rattle.std.specs.List.{filter, list_any}
 use Rattle.wesl_cond_choices.specs.Places.{same_place}
 use Rattle.wesl_cond_choices.specs.declared.place.Place.TheVariants.{Always}
+use Rattle.wesl_cond_covers.specs.CoversView.{AreCoversOf}
+use Rattle.wesl_cond_covers.specs.declared.covers.Covers.{Covers}
+use Rattle.wesl_cond_choices.specs.declared.place.Place.{Place}
 use Rattle.wesl_link_symbols.specs.declared.ids.PathId.{PathId}
 use Rattle.wesl_tree_base.specs.declared.ids.NameId.{NameId}
 use Rattle.wesl_link_symbols.specs.declared.symbols.Reference.{Reference}
@@ -89,6 +92,15 @@ pub record AreGrouped (binders : List (Binder PathId NameId)) (names : List Name
   pub long : length groups ≡ length names
   pub each : (i : ℕ) (n : NameId) (g : Vec (Binder PathId NameId)) → slice_get names i ≡ Some n → slice_get groups i ≡ Some g → g.items ≡ split.of_name ids n binders
   pub all : (b : Binder PathId NameId) → Contains binders b → list_any (same_id b.bound) names ≡ true
+
+-- where these binders stand
+abbrev pub places_of : List (Binder PathId NameId) → List Place
+places_of bs = map (λ b. b.stands) bs
+
+-- the unions that each group has, if it has some, are those of the choices that keep its binders
+abbrev pub AreCovered : List (List Place) → List (Vec (Binder PathId NameId)) → List Covers → Type 0
+AreCovered alive groups covers =
+    (i : ℕ) (g : Vec (Binder PathId NameId)) (c : Covers) → slice_get groups i ≡ Some g → slice_get covers i ≡ Some c → AreCoversOf alive (places_of g.items) c
 
 -- one binder more is put to those of its name
 abbrev pub GroupsNext : List NameId → List (Vec (Binder PathId NameId)) → Binder PathId NameId → List NameId → List (Vec (Binder PathId NameId)) → Type 0

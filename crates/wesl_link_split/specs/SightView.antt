@@ -1,5 +1,5 @@
 -- The binders of a module by numbers, as the code holds them, and what they aim at.
-use Rattle.std.specs.Prelude.{◌≡◌, ℕ, true, false, List, [], ◌∷◌, Contains, Some, map, slice_get, if◌then◌else◌}
+use Rattle.std.specs.Prelude.{◌≡◌, ◌≤◌, ◌<◌, ℕ, true, false, List, [], ◌∷◌, Contains, Some, map, slice_get, if◌then◌else◌}
 use Rattle.std.specs.Global.{Vec}
 use Rattle.wesl_cond_choices.specs.declared.place.Place.{Place}
 use Rattle.wesl_cond_choices.specs.declared.place.Place.TheVariants.{Always}
@@ -30,6 +30,11 @@ aim_in s b = record { reference = split.aim_of ids s b; order = split.order_of i
 -- these are all binders of the module that have the name of one of them
 abbrev pub IsGroup : split.Scope PathId NameId → List (Binder PathId NameId) → Type 0
 IsGroup s bs = (b : Binder PathId NameId) → Contains bs b → bs ≡ split.of_name ids b.bound s.binders
+
+-- no binder of the name from one index to another is seen from there
+abbrev pub IsPassed : split.Scope PathId NameId → NameId → Place → ℕ → ℕ → Type 0
+IsPassed s n from i j =
+    (k : ℕ) (b : Binder PathId NameId) → i ≤ k → k < j → slice_get (split.of_name ids n s.binders) k ≡ Some b → split.sees ids s from (split.place_at ids s n b.stands) ≡ false
 
 -- of each bound name what its binders aim at, where some name of the module has several targets
 abbrev pub AreAims : Sight → List (Vec Aim) → Type 0

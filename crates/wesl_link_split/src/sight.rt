@@ -1,9 +1,10 @@
 //! The binders of a module by their names, which of them are seen from a place, and what they aim at, by numbers (WESL,
 //! "Imports" and "ConditionalTranslation").
-ghost use Rattle.std.specs.Prelude.{◌≡◌, ◌++◌, [], if◌then◌else◌, length, map, take, IfOk, OnOk};
-ghost use Rattle.std.specs.List.{list_any};
+ghost use Rattle.std.specs.Prelude.{◌≡◌, ◌≤◌, ◌++◌, [], if◌then◌else◌, length, map, not, slice_get, take, IfOk, IfSome, OnOk, Some};
+ghost use Rattle.std.specs.List.{filter, list_any};
+ghost use Rattle.wesl_cond_covers.specs.CoversView.{AreCoversOf};
 ghost use Rattle.wesl_link_split.specs.Grouped as listed;
-ghost use Rattle.wesl_link_split.specs.Grouped.{ids, finding_view, AreGrouped, GroupsNext, IsStart};
+ghost use Rattle.wesl_link_split.specs.Grouped.{ids, finding_view, places_of, AreCovered, AreGrouped, GroupsNext, IsStart};
 ghost use Rattle.wesl_link_split.specs.Split as split;
 
 use crate::binders::{
@@ -14,6 +15,7 @@ use indexmap::IndexSet;
 use std::alloc::{AllocError, Global};
 use wesl_cond_choices::alive::Alive;
 use wesl_cond_choices::place::Place;
+use wesl_cond_covers::covers::Covers;
 use wesl_link_symbols::ids::{NameId, PathId};
 use wesl_link_symbols::symbols::Reference;
 
@@ -50,9 +52,12 @@ pub struct Sight {
     facts: Vec<Facts>,
     is_any_split: bool,
     alive: Alive,
+    // Of each name with several targets unions of the choices that keep its binders, where choices are known.
+    covers: Vec<Covers>,
     pub ghost grouped: { AreGrouped binders.items names.keys groups.items },
     pub ghost facts_are: { facts.items ≡ map (λ g. listed.facts_of g.items) groups.items },
     pub ghost split: { is_any_split ≡ split.has_split ids binders.items },
+    pub ghost covered: { AreCovered alive groups.items covers.items },
 }
 
 /// Puts each of these binders to those of its name. It holds nothing, so where memory is wanting nothing is let go.
@@ -98,8 +103,66 @@ fn is_any_split(facts: &[Facts]) -> bool
     false
 }
 
+/// Adds where each of these binders stands.
+fn add_places(places: &mut Vec<Place>, group: &[Binder<PathId, NameId>]) -> Result<(), AllocError>
+    requires { places.old.items ≡ [] }
+    ensures { OnOk result (places.new.items ≡ places_of group.now) }
+{
+    for binder in group {
+        places.push(binder.stands)?;
+    }
+    Ok(())
+}
+
+/// The unions of the choices that keep these binders of a name, where they have several targets.
+fn covers_of(
+    alloc: Global,
+    alive: &Alive,
+    group: &[Binder<PathId, NameId>],
+) -> Result<Covers, AllocError>
+    ensures { IfOk result (λ c. AreCoversOf alive.now (places_of group.now) c) }
+{
+    if !has_two_targets(group) {
+        return Ok(Covers::none(alloc));
+    }
+    let mut places = Vec::new(alloc);
+    add_places(&mut places, group)?;
+    Covers::of(alloc, alive, &places)
+}
+
+/// Adds the unions of each group.
+fn add_covers(
+    alloc: Global,
+    alive: &Alive,
+    covers: &mut Vec<Covers>,
+    groups: &[Vec<Binder<PathId, NameId>>],
+) -> Result<(), AllocError>
+    requires { covers.old.items ≡ [] }
+    ensures { OnOk result (AreCovered alive.now groups.now covers.new.items) }
+{
+    for group in groups {
+        let one = covers_of(alloc, alive, group)?;
+        covers.push(one)?;
+    }
+    Ok(())
+}
+
+/// Adds those of these binders that are imports.
+fn add_imports(
+    found: &mut Vec<Binder<PathId, NameId>>,
+    binders: &[Binder<PathId, NameId>],
+) -> Result<(), AllocError>
+    requires { found.old.items ≡ [] }
+    ensures { OnOk result (found.new.items ≡ filter (λ b. not b.declares) binders.now) }
+{
+    for binder in binders {
+        keep(found, binder, !binder.declares)?;
+    }
+    Ok(())
+}
+
 impl Sight {
-    ghost use Rattle.wesl_link_split.specs.SightView.{aim_in, sight_view, whole, AreAims, IsGroup};
+    ghost use Rattle.wesl_link_split.specs.SightView.{aim_in, sight_view, whole, AreAims, IsGroup, IsPassed};
 
     /// The module with this path and these binders, of which no choice of flags is known yet. Refused for want of memory
     /// alone.
@@ -116,6 +179,7 @@ impl Sight {
         let mut facts = Vec::new(alloc);
         add_facts(&mut facts, &groups)?;
         let is_any_split = is_any_split(&facts);
+        let covers = Vec::new(alloc);
         Ok(Sight {
             own,
             binders,
@@ -124,11 +188,25 @@ impl Sight {
             facts,
             is_any_split,
             alive: Alive::none(),
+            covers,
         })
     }
 
-    /// The same module, of which some choice of flags keeps these places together.
-    pub(crate) fn with_alive(self, alive: Alive) -> Sight
+    /// The same module, of which some choice of flags keeps these places together. Refused for want of memory alone.
+    pub(crate) fn with_alive(self, alloc: Global, alive: Alive) -> Result<Sight, AllocError>
+        ensures { IfOk result (λ s. sight_view s ≡ record { own = (sight_view self).own; binders = (sight_view self).binders; alive = alive }) }
+    {
+        let mut covers = Vec::new(alloc);
+        if !self.is_any_split {
+            return Ok(self.with_covers(alive, covers));
+        }
+        add_covers(alloc, &alive, &mut covers, &self.groups)?;
+        Ok(self.with_covers(alive, covers))
+    }
+
+    /// The same module, of which some choice of flags keeps these places together, with the unions of its names' binders.
+    fn with_covers(self, alive: Alive, covers: Vec<Covers>) -> Sight
+        requires { AreCovered alive self.groups.items covers.items }
         ensures { sight_view result ≡ record { own = (sight_view self).own; binders = (sight_view self).binders; alive = alive } }
     {
         let Sight {
@@ -139,6 +217,7 @@ impl Sight {
             facts,
             is_any_split,
             alive: _,
+            covers: _,
         } = self;
         Sight {
             own,
@@ -148,6 +227,7 @@ impl Sight {
             facts,
             is_any_split,
             alive,
+            covers,
         }
     }
 
@@ -220,6 +300,38 @@ impl Sight {
         place == Place::Always || self.alive.together(from, place)
     }
 
+    /// The unions that are kept at an index.
+    fn held_covers(&self, index: usize) -> Option<&Covers>
+        ensures { IfSome result (λ c. slice_get self.now.covers.items index ≡ Some c.now) }
+    {
+        self.covers.get(index)
+    }
+
+    /// The unions of a name's binders, where the name has several targets and choices are known.
+    fn covers_at(&self, name: NameId) -> Option<&Covers>
+        ensures { IfSome result (λ c. AreCoversOf (sight_view self.now).alive (places_of (split.of_name ids name (sight_view self.now).binders)) c.now) }
+    {
+        match self.names.get_index_of(&name) {
+            Some(index) => self.held_covers(index),
+            None => None,
+        }
+    }
+
+    /// The index of the first binder of a name, from one index on, that is not passed: from `from` none of those before it is
+    /// seen. Where the name has one target, none is passed.
+    pub(crate) fn next(&self, name: NameId, from: Place, index: usize) -> usize
+        ensures ahead { index ≤ result }
+        ensures unseen { IsPassed (sight_view self.now) name from index result }
+    {
+        if !self.is_split(name) {
+            return index;
+        }
+        match self.covers_at(name) {
+            Some(covers) => covers.next(&self.alive, from, index),
+            None => index,
+        }
+    }
+
     /// Adds the binders of a name that are seen from a place.
     fn add_seen(
         &self,
@@ -232,9 +344,11 @@ impl Sight {
     {
         let group = self.group(name);
         let is_split = self.is_split(name);
-        for binder in group {
-            let is_seen = self.sees(from, placed(is_split, binder.stands));
-            keep(found, binder, is_seen)?;
+        let mut i = self.next(name, from, 0);
+        'binders: while i < group.len() {
+            let is_seen = self.sees(from, placed(is_split, group[i].stands));
+            keep(found, &group[i], is_seen)?;
+            i = self.next(name, from, i + 1);
         }
         Ok(())
     }
@@ -438,25 +552,6 @@ impl Sight {
         Ok(())
     }
 
-    /// Adds the imports of a name that are seen from a place.
-    fn add_imports(
-        &self,
-        found: &mut Vec<Binder<PathId, NameId>>,
-        name: NameId,
-        here: Place,
-    ) -> Result<(), AllocError>
-        requires { found.old.items ≡ [] }
-        ensures { OnOk result (found.new.items ≡ split.seen_imports ids (sight_view self.now) name here) }
-    {
-        let group = self.group(name);
-        let is_split = self.is_split(name);
-        for binder in group {
-            let is_seen = self.sees(here, placed(is_split, binder.stands));
-            keep(found, binder, is_seen && !binder.declares)?;
-        }
-        Ok(())
-    }
-
     /// The imports of a name that are seen from a place.
     fn seen_imports(
         &self,
@@ -466,8 +561,9 @@ impl Sight {
     ) -> Result<Vec<Binder<PathId, NameId>>, AllocError>
         ensures { IfOk result (λ v. v.items ≡ split.seen_imports ids (sight_view self.now) name here) }
     {
+        let seen = self.seen(alloc, name, here)?;
         let mut found = Vec::new(alloc);
-        self.add_imports(&mut found, name, here)?;
+        add_imports(&mut found, &seen)?;
         Ok(found)
     }
 

@@ -51,7 +51,7 @@ impl Scope {
     pub fn new(alloc: Global, sight: Sight, alive: Alive) -> Result<Scope, AllocError>
         ensures { IfOk result (λ s. scope_view s ≡ record { own = (sight_view sight).own; binders = (sight_view sight).binders; alive = alive }) }
     {
-        let sight = sight.with_alive(alive);
+        let sight = sight.with_alive(alloc, alive)?;
         let mut aims = Vec::new(alloc);
         sight.add_all_aims(alloc, &mut aims)?;
         let answers = Vec::new(alloc);
@@ -148,29 +148,13 @@ impl Scope {
         let group = self.sight.group(name);
         let aims = self.aims(name);
         let is_split = self.sight.is_split(name);
-        for i in 0..group.len() {
+        let mut i = self.sight.next(name, from, 0);
+        'binders: while i < group.len() {
             let is_seen = self.sight.sees(from, placed(is_split, group[i].stands));
             keep_aim(found, &aims[i], is_seen)?;
+            i = self.sight.next(name, from, i + 1);
         }
         Ok(())
-    }
-
-    /// Adds what a name without a path leads to by what its binders aim at that are seen from `here`, of those that are asked
-    /// first.
-    fn add_aims(
-        &self,
-        alloc: Global,
-        found: &mut Vec<Reference<PathId, NameId>>,
-        name: NameId,
-        here: Place,
-    ) -> Result<(), AllocError>
-        requires split { split.has_split ids (scope_view self.now).binders ≡ true }
-        requires empty { found.old.items ≡ [] }
-        ensures { OnOk result (found.new.items ≡ split.aimed_of ids (scope_view self.now) name here [] (split.seen ids (scope_view self.now) name here)) }
-    {
-        let mut aims = Vec::new(alloc);
-        self.add_seen_aims(&mut aims, name, here)?;
-        add_asked(found, &aims)
     }
 
     /// Adds what a name without a path leads to, by these binders of it that are seen from `here`.
@@ -195,7 +179,9 @@ impl Scope {
             })?;
             return Ok(());
         }
-        self.add_aims(alloc, found, name, here)
+        let mut aims = Vec::new(alloc);
+        self.add_seen_aims(&mut aims, name, here)?;
+        add_asked(found, &aims)
     }
 
     /// Adds what a name without a path asks for that is used at `here`, unless it stands for two things there.

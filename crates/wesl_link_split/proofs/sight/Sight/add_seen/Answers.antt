@@ -1,5 +1,5 @@
-use Rattle.std.proofs.Common.{◌∙◌, ap, ap₂, Bool, List}
-use Rattle.std.specs.Prelude.{flat_map, if◌then◌else◌}
+use Rattle.std.proofs.Common.{◌≡◌, ◌∙◌, ◌+◌, ◌++◌, ap, ap₂, sym, arith, false, Bool, ℕ, List, Some, get_or}
+use Rattle.std.specs.Prelude.{flat_map, if◌then◌else◌, slice_get}
 use Rattle.std.specs.List.{filter}
 use Rattle.wesl_cond_choices.specs.declared.place.Place.TheVariants.{Always}
 use Rattle.wesl_tree_base.specs.declared.ids.NameId.{NameId}
@@ -7,9 +7,35 @@ use Rattle.wesl_link_symbols.specs.declared.ids.PathId.{PathId}
 use Rattle.wesl_link_split.specs.Grouped.{ids, one_if}
 use Rattle.wesl_link_split.specs.SightView.{sight_view}
 use Rattle.wesl_link_split.specs.Split.{Binder, sees}
+use Rattle.wesl_link_split.proofs.Grouping.{held_at}
 use Rattle.wesl_link_split.proofs.Lists.{taken_all}
-use Rattle.wesl_link_split.proofs.Orders.{filter_flat}
+use Rattle.wesl_link_split.proofs.Orders.{filter_flat, itself}
+use Rattle.wesl_link_split.proofs.Passing.{flat_next, passed_on}
 use Rattle.wesl_link_split.proofs.sight.Sight.add_seen.Goals as goal
+
+-- what stands where a list has nothing
+abbrev any_binder : Binder PathId NameId
+any_binder = record { bound = record { 0 = 0 }; path = record { 0 = 0 }; item = record { 0 = 0 }; declares = false; stands = Always }
+
+pub binders-init : goal.binders-init
+binders-init c =
+    let s = sight_view c.args.self.now in
+    let bs : List (Binder PathId NameId) = c.group-group.result.now in
+    c.requires ∙ sym (passed_on s c.args.name c.args.from bs c.is_split-is_split.result c.group-group.ensures c.is_split-is_split.ensures (λ b. b) 0 c.next-i.result (omega arith) c.next-i.ensures.unseen)
+
+pub binders-preserved : goal.binders-preserved
+binders-preserved c =
+    let s = sight_view c.args.self.now in
+    let bs : List (Binder PathId NameId) = c.group-group.result.now in
+    let x : Bool = c.is_split-is_split.result in
+    let i : ℕ = c.binders.i in
+    let b : Binder PathId NameId = get_or bs i any_binder in
+    let at : slice_get bs i ≡ Some b = held_at bs i b c.binders-test.true (itself bs i any_binder c.binders-test.true) in
+    let is_seen : c.sees-is_seen.result ≡ sees ids s c.args.from (if x then b.stands else Always) = c.sees-is_seen.ensures ∙ ap (sees ids s c.args.from) c.placed.ensures in
+    c.in_ok-keep.ensures
+    ∙ (ap₂ (λ (l : List (Binder PathId NameId)) y. l ++ one_if y b) c.binders.invariant is_seen
+    ∙ (sym (flat_next (λ d. one_if (sees ids s c.args.from (if x then d.stands else Always)) d) bs i b at)
+    ∙ sym (passed_on s c.args.name c.args.from bs x c.group-group.ensures c.is_split-is_split.ensures (λ d. d) (i + 1) c.next-i-in-binders.result c.next-i-in-binders.ensures.ahead c.next-i-in-binders.ensures.unseen)))
 
 pub returns : goal.returns
 returns c =
@@ -17,6 +43,6 @@ returns c =
     let bs : List (Binder PathId NameId) = c.group-group.result.now in
     let seen : Bool → Binder PathId NameId → Bool = λ x b. sees ids s c.args.from (if x then b.stands else Always) in
     let x : Bool = c.is_split-is_split.result in
-    c.loop-binder.invariant
-    ∙ (ap (flat_map (λ b. one_if (seen x b) b)) (taken_all bs c.loop-binder.binder-index c.loop-binder-test.false)
+    c.binders.invariant
+    ∙ (ap (flat_map (λ b. one_if (seen x b) b)) (taken_all bs c.binders.i c.binders-test.false)
     ∙ (filter_flat (seen x) bs ∙ ap₂ (λ y ds. filter (seen y) ds) c.is_split-is_split.ensures c.group-group.ensures))

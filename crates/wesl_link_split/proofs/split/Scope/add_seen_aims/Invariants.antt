@@ -1,4 +1,4 @@
-use Rattle.std.proofs.Common.{◌≡◌, take}
+use Rattle.std.proofs.Common.{◌≡◌, ◌-◌, length, take}
 use Rattle.std.specs.Prelude.{flat_map, if◌then◌else◌}
 use Rattle.wesl_cond_choices.specs.declared.place.Place.TheVariants.{Always}
 use Rattle.wesl_link_split.specs.Grouped.{ids, one_if}
@@ -7,7 +7,10 @@ use Rattle.wesl_link_split.specs.SightView.{aim_in}
 use Rattle.wesl_link_split.specs.Split.{sees}
 use Rattle.wesl_link_split.proofs.split.Scope.add_seen_aims.Given as goal
 
-abbrev pub invariant-loop-i : goal.invariant-loop-i
-invariant-loop-i l =
+abbrev pub invariant-binders : goal.invariant-binders
+invariant-binders l =
     l.found.items
     ≡ flat_map (λ b. one_if (sees ids (scope_view l.self) l.from (if l.is_split then b.stands else Always)) (aim_in (scope_view l.self) b)) (take l.i l.group)
+
+abbrev pub decreases-binders : goal.decreases-binders
+decreases-binders l = length l.group - l.i
