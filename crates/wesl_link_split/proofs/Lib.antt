@@ -10,3 +10,4 @@ pub mod Once
 pub mod Asked
 pub mod Anywhere
 pub mod Passing
+pub mod Leading

@@ -4,5 +4,6 @@ pub mod Uses
 pub mod SplitRows
 pub mod Grouped
 pub mod SightView
+pub mod Leading
 pub mod ScopeView
 pub mod Laws

@@ -300,16 +300,6 @@ pub(crate) fn aim_elsewhere(binder: &Binder<PathId, NameId>) -> Aim
     }
 }
 
-/// Adds what a binder aims at, if it is kept.
-pub(crate) fn keep_aim(found: &mut Vec<Aim>, aim: &Aim, is_kept: bool) -> Result<(), AllocError>
-    ensures { OnOk result (found.new.items ≡ found.old.items ++ grouped.one_if is_kept aim.now) }
-{
-    if is_kept {
-        found.push(*aim)?;
-    }
-    Ok(())
-}
-
 /// The lower of two numbers.
 fn lower(a: usize, b: usize) -> usize
     ensures { result ≡ (if nat_lt b a then b else a) }

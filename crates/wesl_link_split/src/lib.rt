@@ -2,6 +2,7 @@
 #![tactic(auto)]
 
 pub mod binders;
+pub mod kinds;
 pub mod laws;
 pub mod sight;
 pub mod split;

@@ -17,7 +17,8 @@ use wesl_cond_choices::alive::Alive;
 use wesl_cond_choices::place::Place;
 use wesl_cond_covers::covers::Covers;
 use wesl_link_symbols::ids::{NameId, PathId};
-use wesl_link_symbols::symbols::Reference;
+use wesl_link_symbols::row::Row;
+use wesl_link_symbols::symbols::{Import, Reference};
 
 /// Puts a binder to those of its name.
 fn add_to_group(
@@ -162,6 +163,9 @@ fn add_imports(
 }
 
 impl Sight {
+    ghost use Rattle.wesl_link_symbols.specs.Row.{Passes};
+    ghost use Rattle.wesl_link_symbols.specs.RowView.{IsCovered, IsUnseen};
+    ghost use Rattle.wesl_link_split.specs.Leading.{kind_in, HasKinds, IsKindRow};
     ghost use Rattle.wesl_link_split.specs.SightView.{aim_in, sight_view, whole, AreAims, IsGroup, IsPassed};
 
     /// The module with this path and these binders, of which no choice of flags is known yet. Refused for want of memory
@@ -663,5 +667,92 @@ impl Sight {
             all.push(aims)?;
         }
         Ok(())
+    }
+
+    // ---- what the binders of the module lead to, in a row
+
+    /// What a binder leads to that aims at this.
+    fn kind(&self, binder: &Binder<PathId, NameId>, aim: &Aim) -> Import<PathId, NameId>
+        requires { aim.now ≡ aim_in (sight_view self.now) binder.now }
+        ensures { result ≡ kind_in (sight_view self.now) binder.now }
+    {
+        Import {
+            bound: binder.bound,
+            path: binder.path,
+            item: binder.item,
+            published: binder.declares,
+            place: self.place_at(binder.bound, binder.stands),
+            from: aim.reference.from,
+            order: aim.order,
+        }
+    }
+
+    /// Adds what each of these binders leads to.
+    fn add_kinds(
+        &self,
+        kinds: &mut Vec<Import<PathId, NameId>>,
+        group: &[Binder<PathId, NameId>],
+        aims: &[Aim],
+    ) -> Result<(), AllocError>
+        requires { aims.now ≡ map (aim_in (sight_view self.now)) group.now }
+        ensures { OnOk result (kinds.new.items ≡ kinds.old.items ++ map (kind_in (sight_view self.now)) group.now) }
+    {
+        for i in 0..group.len() {
+            let kind = self.kind(&group[i], &aims[i]);
+            kinds.push(kind)?;
+        }
+        Ok(())
+    }
+
+    /// Adds what all binders of the module lead to.
+    fn add_all_kinds(
+        &self,
+        kinds: &mut Vec<Import<PathId, NameId>>,
+        aims: &[Vec<Aim>],
+    ) -> Result<(), AllocError>
+        requires split { split.has_split ids (sight_view self.now).binders ≡ true }
+        requires aims { AreAims self.now aims.now }
+        requires empty { kinds.old.items ≡ [] }
+        ensures { OnOk result (HasKinds (sight_view self.now) kinds.new.items) }
+    {
+        for i in 0..self.groups.len() {
+            self.add_kinds(kinds, &self.groups[i], &aims[i])?;
+        }
+        Ok(())
+    }
+
+    /// What all binders of the module lead to, where some name of the module has several targets.
+    fn kinds(
+        &self,
+        alloc: Global,
+        aims: &[Vec<Aim>],
+    ) -> Result<Vec<Import<PathId, NameId>>, AllocError>
+        requires { AreAims self.now aims.now }
+        ensures { IfOk result (λ v. split.has_split ids (sight_view self.now).binders ≡ true → HasKinds (sight_view self.now) v.items) }
+    {
+        let mut kinds = Vec::new(alloc);
+        if !self.is_any_split {
+            return Ok(kinds);
+        }
+        self.add_all_kinds(&mut kinds, aims)?;
+        Ok(kinds)
+    }
+
+    /// The same in a row.
+    pub(crate) fn row(&self, alloc: Global, aims: &[Vec<Aim>]) -> Result<Row, AllocError>
+        requires { AreAims self.now aims.now }
+        ensures { IfOk result (λ r. IsKindRow self.now r) }
+    {
+        let kinds = self.kinds(alloc, aims)?;
+        Row::of(alloc, &self.alive, &kinds)
+    }
+
+    /// The index of the first in a row, from one index on, that is not passed: none of those before it is seen from `from`.
+    pub(crate) fn next_in(&self, row: &Row, from: Place, index: usize) -> usize
+        requires { IsCovered (sight_view self.now).alive row.now }
+        ensures ahead { index ≤ result }
+        ensures unseen { Passes (IsUnseen (sight_view self.now).alive from) row.now.imports.items index result }
+    {
+        row.next(&self.alive, from, index)
     }
 }

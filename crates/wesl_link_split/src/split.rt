@@ -1,20 +1,26 @@
 //! Names with several targets in one module, and what its names ask for, by numbers (WESL, "Imports" and
 //! "ConditionalTranslation").
-ghost use Rattle.std.specs.Prelude.{◌≡◌, ◌++◌, ℕ, [], true, false, map, slice_get, take, IfOk, IfSome, OnOk, Some};
-ghost use Rattle.wesl_link_split.specs.Grouped.{ids, IsStart, AddsUnless};
+ghost use Rattle.std.specs.Prelude.{◌≡◌, ◌+◌, ◌<◌, ◌++◌, ◌&&◌, ℕ, [], true, false, length, map, slice_get, take, IfOk, IfSome, OnOk, Some};
+ghost use Rattle.wesl_link_split.specs.Grouped.{ids, same_id, IsStart, AddsUnless};
+ghost use Rattle.wesl_link_split.specs.Leading.{binder_to, AreKindsOf, IsKindRow};
 ghost use Rattle.wesl_link_split.specs.SightView.{aim_in, sight_view, AreAims, AreAnswers, IsAnswered};
 ghost use Rattle.wesl_link_split.specs.Split as split;
+ghost use Rattle.wesl_link_symbols.specs.declared.row.Likeness.TheVariants.{Alike};
+ghost use Rattle.wesl_link_symbols.specs.Keyed.{HaveTheSame};
+ghost use Rattle.wesl_link_symbols.specs.Row.{IsRun};
 ghost use Rattle.wesl_tree_base.specs.declared.ids.NameId.{NameId};
 
 use crate::binders::{
-    Aim, Answered, Binder, Start, add_answer, add_asked, aim_elsewhere, are_unlike, binder_of,
-    first_of, has_declaration, has_two_targets, is_same_binder, keep_aim, placed,
+    Aim, Answered, Binder, Start, add_answer, aim_elsewhere, are_unlike, binder_of, first_of,
+    has_declaration, has_two_targets, is_same_binder,
 };
+use crate::kinds::{add_asked_of, binders_to, keep_kind};
 use crate::sight::Sight;
 use std::alloc::{AllocError, Global};
 use wesl_cond_choices::alive::Alive;
 use wesl_cond_choices::place::Place;
 use wesl_link_symbols::ids::{NameId, PathId};
+use wesl_link_symbols::row::{Likeness, Row};
 use wesl_link_symbols::symbols::{Import, Reference};
 
 /// Adds the first of these references, if there is one.
@@ -37,9 +43,12 @@ pub struct Scope {
     pub(crate) sight: Sight,
     // Of each bound name what its binders aim at, where some name of the module has several targets.
     aims: Vec<Vec<Aim>>,
+    // What all binders lead to, in a row, where some name of the module has several targets.
+    row: Row,
     // Of each bound name what it asks for, which counts where it has one target and some other name has several.
     answers: Vec<Answered>,
     pub ghost aims_are: { AreAims sight aims.items },
+    pub ghost row_is: { IsKindRow sight row },
     pub ghost answers_are: { AreAnswers sight answers.items },
 }
 
@@ -54,10 +63,12 @@ impl Scope {
         let sight = sight.with_alive(alloc, alive)?;
         let mut aims = Vec::new(alloc);
         sight.add_all_aims(alloc, &mut aims)?;
+        let row = sight.row(alloc, &aims)?;
         let answers = Vec::new(alloc);
         let scope = Scope {
             sight,
             aims,
+            row,
             answers,
         };
         let answers = scope.answers(alloc)?;
@@ -72,11 +83,13 @@ impl Scope {
         let Scope {
             sight,
             aims,
+            row,
             answers: _,
         } = self;
         Scope {
             sight,
             aims,
+            row,
             answers,
         }
     }
@@ -88,6 +101,7 @@ impl Scope {
         let Scope {
             sight,
             aims: _,
+            row: _,
             answers: _,
         } = self;
         sight.into_alive()
@@ -134,42 +148,80 @@ impl Scope {
         }
     }
 
-    /// Adds what the binders of a name aim at that are seen from a place.
-    fn add_seen_aims(
+    // ---- what the binders of a name lead to
+
+    /// Whether what a binder leads to is of that name, and is seen from a place.
+    fn sees_kind(&self, kind: &Import<PathId, NameId>, name: NameId, from: Place) -> bool
+        ensures { result ≡ (same_id kind.now.bound name && split.sees ids (scope_view self.now) from kind.now.place) }
+    {
+        kind.bound == name && self.sight.sees(from, kind.place)
+    }
+
+    /// The index behind the one at this index, and behind those that follow on it and lead to the same where it is seen.
+    fn behind(&self, index: usize, is_seen: bool) -> usize
+        requires { index < length self.now.row.imports.items }
+        ensures run { IsRun Alike self.now.row.imports.items index result }
+        ensures one { is_seen ≡ false → result ≡ index + 1 }
+    {
+        if is_seen {
+            self.row.end_of(Likeness::Alike, index)
+        } else {
+            index + 1
+        }
+    }
+
+    /// Adds what the binders of a name lead to that are seen from a place, of those that lead to the same at least one.
+    fn add_kinds(
         &self,
-        found: &mut Vec<Aim>,
+        found: &mut Vec<Import<PathId, NameId>>,
         name: NameId,
         from: Place,
     ) -> Result<(), AllocError>
         requires split { split.has_split ids (scope_view self.now).binders ≡ true }
         requires empty { found.old.items ≡ [] }
-        ensures { OnOk result (found.new.items ≡ map (aim_in (scope_view self.now)) (split.seen ids (scope_view self.now) name from)) }
+        ensures { OnOk result (AreKindsOf (scope_view self.now) (split.seen ids (scope_view self.now) name from) found.new.items) }
     {
-        let group = self.sight.group(name);
-        let aims = self.aims(name);
-        let is_split = self.sight.is_split(name);
-        let mut i = self.sight.next(name, from, 0);
-        'binders: while i < group.len() {
-            let is_seen = self.sight.sees(from, placed(is_split, group[i].stands));
-            keep_aim(found, &aims[i], is_seen)?;
-            i = self.sight.next(name, from, i + 1);
+        let extent = self.row.extent(name);
+        let mut i = self.sight.next_in(&self.row, from, extent.start);
+        'kinds: while i < extent.end {
+            let kind = self.row.import_at(i);
+            let is_seen = self.sees_kind(&kind, name, from);
+            keep_kind(found, &kind, is_seen)?;
+            let behind = self.behind(i, is_seen);
+            i = self.sight.next_in(&self.row, from, behind);
         }
         Ok(())
     }
 
-    /// Adds what a name without a path leads to, by these binders of it that are seen from `here`.
+    /// What the binders of a name lead to that are seen from a place, of those that lead to the same at least one.
+    fn kinds(
+        &self,
+        alloc: Global,
+        name: NameId,
+        from: Place,
+    ) -> Result<Vec<Import<PathId, NameId>>, AllocError>
+        requires { split.has_split ids (scope_view self.now).binders ≡ true }
+        ensures { IfOk result (λ v. AreKindsOf (scope_view self.now) (split.seen ids (scope_view self.now) name from) v.items) }
+    {
+        let mut found = Vec::new(alloc);
+        self.add_kinds(&mut found, name, from)?;
+        Ok(found)
+    }
+
+    /// Adds what a name without a path leads to, by what the binders of it lead to that are seen from `here`.
     fn add_aimed(
         &self,
         alloc: Global,
         found: &mut Vec<Reference<PathId, NameId>>,
         name: NameId,
         here: Place,
+        kinds: &[Import<PathId, NameId>],
         seen: &[Binder<PathId, NameId>],
     ) -> Result<(), AllocError>
-        requires split { split.has_split ids (scope_view self.now).binders ≡ true }
-        requires seen { seen.now ≡ split.seen ids (scope_view self.now) name here }
+        requires kinds { AreKindsOf (scope_view self.now) (split.seen ids (scope_view self.now) name here) kinds.now }
+        requires seen { seen.now ≡ map binder_to kinds.now }
         requires empty { found.old.items ≡ [] }
-        ensures { OnOk result (found.new.items ≡ split.aimed_plain ids (scope_view self.now) name here) }
+        ensures { OnOk result (HaveTheSame found.new.items (split.aimed_plain ids (scope_view self.now) name here)) }
     {
         if has_declaration(seen) {
             found.push(Reference {
@@ -179,9 +231,7 @@ impl Scope {
             })?;
             return Ok(());
         }
-        let mut aims = Vec::new(alloc);
-        self.add_seen_aims(&mut aims, name, here)?;
-        add_asked(found, &aims)
+        add_asked_of(alloc, found, kinds)
     }
 
     /// Adds what a name without a path asks for that is used at `here`, unless it stands for two things there.
@@ -195,12 +245,13 @@ impl Scope {
         requires { split.has_split ids (scope_view self.now).binders ≡ true }
         ensures { IfOk result (λ b. AddsUnless b (split.is_unclear_plain ids (scope_view self.now) name here) found.old.items found.new.items (split.asked_plain ids (scope_view self.now) name here)) }
     {
-        let seen = self.sight.seen(alloc, name, here)?;
+        let kinds = self.kinds(alloc, name, here)?;
+        let seen = binders_to(alloc, &kinds)?;
         if has_two_targets(&seen) {
             return Ok(true);
         }
         let mut aimed = Vec::new(alloc);
-        self.add_aimed(alloc, &mut aimed, name, here, &seen)?;
+        self.add_aimed(alloc, &mut aimed, name, here, &kinds, &seen)?;
         if are_unlike(&aimed) {
             return Ok(true);
         }
