@@ -4,7 +4,6 @@ use Rattle.std.proofs.Math.ListN.{set}
 use Rattle.std.proofs.lemmas.List.{drop-set-lt, map-append, drop_more}
 use Rattle.std.proofs.lemmas.Grind.{take-set_at}
 
--- a `Vec` whose whole slice was lent and given back as xs
 -- one more of a list changed in its place
 pub changed : {A B : Type 0} (f g : A → B) (xs : List A) (i : ℕ) (d y : A) (total : List B) → i < length xs → f y ≡ g (get_or xs i d) → map f (take i xs) ++ map g (drop i xs) ≡ total
     → map f (take (i + 1) (set xs i y)) ++ map g (drop (i + 1) (set xs i y)) ≡ total

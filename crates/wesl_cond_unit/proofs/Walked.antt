@@ -32,7 +32,6 @@ Walks names reply kept decided x kept' decided' (Ok done) = (rest : List (Elemen
     × (StandsAt reply false (on_from reply kept' decided' rest) f → StandsAt reply false (on_from reply kept decided (x ∷ rest)) f)
 Walks names reply kept decided x kept' decided' (Err e) = (rest : List (Element ℕ)) → RefusesIn names reply (on_from reply kept decided (x ∷ rest)) e
 
--- A list as elements.
 -- One branch.
 abbrev closing_one : Label → Forest → Element ℕ
 closing_one l c = record { closes = true; label = l; children = c }

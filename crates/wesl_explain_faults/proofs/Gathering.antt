@@ -23,7 +23,6 @@ use Rattle.wesl_link_reach.proofs.Following.{puts_has}
 abbrev pub IsAskedIn : List Finding → Wrong → Asker PathId NameId → Type 0
 IsAskedIn told w a = (f : Finding) × Contains told f × (wrong_in f ≡ w) × (f.asker ≡ a)
 
--- a key stays, or is the one that was put
 -- one finding more is tied
 pub tie_next : (told : List Finding) (i : ℕ) (d : Finding) (k : Wrong) (o : Option ℕ) (latest fresh : List (Wrong × ℕ)) (earlier longer : List (Option ℕ))
     → i < length told → k ≡ wrong_in (slice_index_or told i d) → Chains wrong_in told i latest earlier

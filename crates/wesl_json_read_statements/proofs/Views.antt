@@ -16,8 +16,6 @@ use Rattle.wesl_tree_syntax.proofs.Views.{view_block, view_compound_of, view_if,
 abbrev pub Attributes : Type 0
 Attributes = Vec (Spanned Attribute) Global
 
--- ---- blocks and clauses
-
 -- ---- statements
 
 pub view-block : (a : Attributes) (v : Vec (Spanned Statement) Global) → statement_view (made.Compound (roll-CompoundStatement (record { attributes = a; statements = v }))) ≡ branch compound_statement (branch compound (attributes_tree a ∷ listed statement_tree statements v ∷ []) ∷ [])

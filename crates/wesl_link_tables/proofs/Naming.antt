@@ -66,5 +66,3 @@ module _ {X Y : Type 0} (R : X → Y → Type 0) where
   related_at (z ∷ xs) [] i x d h l e = absurd h
   related_at (z ∷ xs) (y ∷ ys) (suc i) x d h l e = related_at xs ys i x d h.1 (omega (arith, l)) e
   related_at (z ∷ xs) (y ∷ ys) zero x d h l e = subst (λ v. R v y) (sym e) h.0
-
--- what stands at a place is there whatever would stand for it elsewhere

@@ -130,7 +130,6 @@ notes_nothing r here st name still same = record {
   };
 }
 
--- an identifier
 -- the number of paths, once that of one more identifier is counted
 counted_one : (r : Reader) (ss : List SenseMet) (x : SenseMet) (n : ℕ) → map sense_view r.senses.items ≡ ss → r.paths ≡ path_total ss → (r.paths < 2 ^ 63 → n ≡ r.paths + path_count x) → n ≡ path_total (ss ++ x ∷ [])
 counted_one r ss x n shown counted one =

@@ -8,13 +8,9 @@ use Rattle.wesl_tree_names.specs.declared.names.Ident.{Ident}
 use Rattle.wesl_tree_syntax.specs.declared.expression.TypeExpression.{TypeExpression, out-TypeExpression}
 use Rattle.wesl_tree_syntax.proofs.Views.{type_of}
 
--- expressions
+-- types
 
--- statements
-
--- clauses
-
--- a type whose template arguments are known
+-- the trees of the parts of a type
 abbrev pub type_fields : TypeExpression → List Tree
 type_fields t = optional boxed_path (out-TypeExpression t).path ∷ ident_tree reference (out-TypeExpression t).ident ∷ optional (listed argument_view list) (out-TypeExpression t).template_args ∷ []
 

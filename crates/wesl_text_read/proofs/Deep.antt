@@ -38,7 +38,6 @@ none_within a n none = lt-leb (suc a) n (omega arith)
 
 pub ruleset steps = (alone, both_within, nothing_more, one_within, none_within)
 
--- a call: what is called, and its arguments
 -- a template argument has the levels of its expression
 pub argument_levels : (a : TemplateArg) → levels_in (argument_view a) ≡ levels_in (expression_tree (out-TemplateArg a).expression)
 argument_levels a = ap levels_in (fold_out-TemplateArg Tree Tree Tree Tree expression_step call_step argument_step type_step a) ∙ alone _

@@ -14,8 +14,6 @@ use Rattle.wesl_text_read_statements.specs.Statements.{boxed_statement}
 abbrev Attributes : Type 0
 Attributes = Vec (Spanned Attribute) Global
 
--- ---- bodies and clauses
-
 -- ---- statements
 
 pub view-for : (a : Attributes) (i : Option (Box (Spanned Statement))) (e : Option (Spanned Expression)) (u : Option (Box (Spanned Statement))) (b : CompoundStatement) → statement_view (made.For a i e u b) ≡ branch for_loop (attributes_tree a ∷ optional boxed_statement i ∷ optional expression_tree e ∷ optional boxed_statement u ∷ compound_view b ∷ [])

@@ -98,8 +98,7 @@ open_kept (renamed r x y h c o) = open_from (ident r x) (ident r y) c o (open_ke
 open_kept (unqualified q c o) = open_kept o
 open_kept (discards n a v o) = open_kept o
 
--- the first of two has no bearing
--- nor has a name
+-- a name that stands first has no bearing
 open_named : (t o : Forest) → IsNamed t → ends_open (tree (at expression_node 0 0) t o) ≡ ends_open o
 open_named t o (inl x) = ap (λ z. ends_open (tree (at expression_node 0 0) z o)) x.1
 open_named t o (inr x) = ap (λ z. ends_open (tree (at expression_node 0 0) z o)) x.2

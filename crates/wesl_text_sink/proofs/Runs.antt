@@ -99,7 +99,6 @@ among_high (d ∷ ds) c a h =
     let x : (nat_lt d 128 ≡ true) × (all_low ds ≡ true) = and_parts (nat_lt d 128) (all_low ds) a in
     ap (λ z. z || is_one_of ds c) (other_high d c x.0 h) ∙ among_high ds c x.1 h
 
--- where no test holds, the number ends
 number_begins : (c : ℕ) (d : Digits) → ((at : ℕ) → begun at c ≡ Ok (in_number at (c ∷ []) d)) → is_digit c ≡ true → NumberRuns (c ∷ []) d
 number_begins c d b h = record {
   are_scalars = low_scalars c (digit_low c h);
@@ -108,7 +107,6 @@ number_begins c d b h = record {
   begin = ap (λ z. z || (c == 46)) h;
 }
 
--- one more byte
 number_pointed : (c : ℕ) (d : Digits) → ((s at : ℕ) → at_sign s 46 at c ≡ on (in_number s (46 ∷ c ∷ []) d)) → is_digit c ≡ true → NumberRuns (46 ∷ c ∷ []) d
 number_pointed c d k h =
     let x : (scalars (46 ∷ c ∷ []) ≡ true) × (encodes (46 ∷ c ∷ []) ≡ 46 ∷ c ∷ []) = low_more (46 ∷ []) c (digit_low c h) refl (low_encoded 46 (omega arith)) in

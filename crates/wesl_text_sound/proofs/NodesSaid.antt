@@ -71,7 +71,6 @@ simple_row child (assignment o) r h e = ap (may_end child) (of_some r _ (turned 
 simple_row child (kind k) r h e = such_row (λ j. is_simple (Some (kind j))) (may_end child) rows_of_bare_statement k r refl e h
 simple_row child l r h e = absurd (no_true e)
 
--- slots before none
 -- ---- nodes
 
 module _ (child : Sort → Reader) (nodes : (s : Sort) → IsSound (child s) s) where

@@ -87,7 +87,6 @@ closes_row : (f : Forest) (row : Row) → (spells f).row (closes row) ≡ follow
 closes_row end row = refl
 closes_row (tree l c o) row = refl
 
--- `_` is one tree
 -- no expression is `_`
 no_underscore : (child : Sort → Reader) (ts us : List Token) → fill (first_slots (wildcard child).label (wildcard child).children (spells (wildcard child).children) an_expression) ts ≡ Some us → ⊥
 unfolding chars

@@ -81,7 +81,6 @@ label_of x = ap (λ y. (statement_view y).label) (sym (roll-out-Statement x)) �
 label_made : (x : Statement) (layer : Layer) → x ≡ roll-Statement layer → (statement_view x).label ≡ label_at layer
 label_made x layer is = ap (λ y. (statement_view y).label) is ∙ label_rolled layer
 
--- trees with unlike labels
 -- where the left one is of no group, and where the two differ
 pub group_left : (test : Label → Bool) (s : Tree) (b : Bool) → test s.label ≡ false → false ≡ (test s.label && b)
 group_left test s b h = rw h refl

@@ -50,5 +50,3 @@ module _ (u : UnitView) (b : BuiltinNames) (names : List Text) (same : names ≡
     named = ap (spelling u) f.named ∙ (ap (λ ns. name_in ns m) (sym same) ∙ sym n_is);
     round = ap (name_round u) f.lies ∙ sym within_is;
   }
-
--- what holds where nothing was found

@@ -6,7 +6,6 @@ use Rattle.wesl_visit_collect.specs.Held.{hollow_label}
 use Rattle.wesl_visit_rewrite.specs.Replaced.{is_passed_over}
 use Rattle.wesl_visit_collect.specs.Sought.{Sought, expressions, types, statements, attribute_lists}
 
--- a test of a kind of node, told by the label first
 abbrev pub words : Label → Bool
 words l = is_formula l || is_import_or_directive l
 
