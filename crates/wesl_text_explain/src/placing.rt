@@ -35,8 +35,8 @@ impl Names {
 
     // The index of the next one with this name.
     fn index_of(&self, name: Option<&str>) -> Option<usize> {
-        for (index, placed) in self.placed.iter().enumerate() {
-            if index >= self.passed && own_name(placed) == name {
+        for (index, placed) in self.placed.iter().enumerate().skip(self.passed) {
+            if own_name(placed) == name {
                 return Some(index);
             }
         }
