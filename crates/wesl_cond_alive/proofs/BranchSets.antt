@@ -7,6 +7,7 @@ use Rattle.std.proofs.lemmas.List.Elements.{Contains-append_cases}
 use Rattle.wesl_cond_chains.specs.Picked.{Choice}
 use Rattle.wesl_cond_choices.specs.Alive.{AreOver, set_has}
 use Rattle.wesl_cond_choices.specs.Choices.{Choices, has}
+use Rattle.wesl_cond_sets.proofs.KeptSets.{get_before, get_last}
 use Rattle.wesl_cond_alive.specs.Sets.{AreNested, AreSet, AreSetsOf, IsNarrowed, has_choice, value}
 use Rattle.wesl_cond_alive.specs.Walk.{Branch, all_choices, no_choices}
 
@@ -67,15 +68,6 @@ pub is_all : (k n : ℕ) → k < 2 ^ n → nat_lt k (2 ^ n) ≡ true
 is_all k n l = lt-ltb k (2 ^ n) l
 
 -- ---- sets, one more
-
-get_before : {X : Type 0} (xs : List X) (y : X) (n : ℕ) → n < length xs → slice_get (xs ++ y ∷ []) n ≡ slice_get xs n
-get_before [] y n h = absurd (omega arith)
-get_before (x ∷ xs) y zero h = refl
-get_before (x ∷ xs) y (suc n) h = get_before xs y n (omega arith)
-
-get_last : {X : Type 0} (xs : List X) (y : X) → slice_get (xs ++ y ∷ []) (length xs) ≡ Some y
-get_last [] y = refl
-get_last (x ∷ xs) y = get_last xs y
 
 -- the sets so far, and what the last chain leaves
 pub record SoFar (flags : ℕ) (choice : ℕ → Choice ℕ) (sets : List Choices) (left : Choices) (bs : List (Branch ℕ)) : Type 0 where

@@ -1,10 +1,12 @@
 -- The sets of choices that a walk numbers: that of all choices, the empty one, and those of the branches of chains, in order.
-use Rattle.std.specs.Prelude.{◌≡◌, ℕ, suc, ◌^◌, ◌<◌, Bool, true, false, not, ◌&&◌, cond, Option, Some, None, List, [], ◌∷◌, map}
+use Rattle.std.specs.Prelude.{◌≡◌, ℕ, suc, ◌^◌, ◌<◌, Bool, true, false, not, ◌&&◌, cond, Option, Some, None, List, [], ◌∷◌, length, map}
 use Rattle.wesl_cond_chains.specs.Formulas.{Form, value_under}
 use Rattle.wesl_cond_chains.specs.Lists.{elements}
 use Rattle.wesl_cond_chains.specs.Picked.{Choice}
 use Rattle.wesl_cond_choices.specs.Alive.{AreOver, has_at}
 use Rattle.wesl_cond_choices.specs.Choices as choices
+use Rattle.wesl_cond_sets.specs.SetNumbers.{HasSets}
+use Rattle.wesl_cond_sets.specs.declared.sets.SetNumbers.{SetNumbers}
 use Rattle.wesl_tree_syntax.specs.Tree.{before, end}
 use Rattle.wesl_tree_syntax.specs.Unit.{UnitOf}
 use Rattle.wesl_cond_alive.specs.Sound.{outline_of}
@@ -45,6 +47,14 @@ pub record AreSetsOf (flags : ℕ) (choice : ℕ → Choice ℕ) (sets : List ch
   pub all : (k : ℕ) → k < 2 ^ flags → has_choice sets k all_choices ≡ true
   pub none : (k : ℕ) → has_choice sets k no_choices ≡ false
   pub told : (k : ℕ) → k < 2 ^ flags → AreSet (choice k) (has_choice sets k) 2 true branches
+
+-- the sets of choices of so many flags that branches have are kept
+abbrev pub HasSetsOf : ℕ → (ℕ → Choice ℕ) → SetNumbers → List (Branch ℕ) → Type 0
+HasSetsOf flags choice s branches = (sets : List choices.Choices) × HasSets s sets × AreSetsOf flags choice sets branches
+
+-- that of all choices and the empty one are kept, whatever is chosen
+abbrev pub HasFirst : ℕ → SetNumbers → Type 0
+HasFirst flags s = (sets : List choices.Choices) × HasSets s sets × (length sets ≡ 2) × ((choice : ℕ → Choice ℕ) → AreSetsOf flags choice sets [])
 
 -- what a walk over a module has found before its declarations
 abbrev pub before_declarations : {I : Type 0} → State I → UnitOf I → State I

@@ -5,31 +5,33 @@ ghost use Rattle.wesl_tree_syntax.specs.Unit.{spelled};
 ghost use Rattle.wesl_tree.specs.Translation.{unit_view};
 ghost use Rattle.wesl_cond_alive.specs.Alive.{alive_of};
 ghost use Rattle.wesl_cond_alive.specs.Choices as choices;
+ghost use Rattle.wesl_cond_sets.specs.SetNumbers.{place_in};
 
 use crate::sets::sets_of;
 use crate::walk::{Here, Mark, Walk};
 use std::alloc::{AllocError, Global};
 use wesl_cond_choices::alive::Alive;
+use wesl_cond_sets::SetNumbers;
 use wesl_tree::TranslationUnit;
 
-/// The numbers of the sets of places.
-fn numbers_of_places(alloc: Global, places: &[Here]) -> Result<Vec<usize>, AllocError>
-    ensures { IfOk result (λ numbers. numbers.items ≡ map (λ h. h.set) places.now) }
+/// Where the sets of places are kept.
+fn place_sets(alloc: Global, sets: &SetNumbers, places: &[Here]) -> Result<Vec<usize>, AllocError>
+    ensures { IfOk result (λ numbers. numbers.items ≡ map (λ h. place_in sets.now h.set) places.now) }
 {
     let mut numbers = Vec::new(alloc);
     for place in places {
-        numbers.push(place.set)?;
+        numbers.push(sets.place(place.set))?;
     }
     Ok(numbers)
 }
 
-/// The numbers of the sets of identifiers.
-fn numbers_of_marks(alloc: Global, marks: &[Mark]) -> Result<Vec<usize>, AllocError>
-    ensures { IfOk result (λ numbers. numbers.items ≡ map (λ m. m.set) marks.now) }
+/// Where the sets of identifiers are kept.
+fn mark_sets(alloc: Global, sets: &SetNumbers, marks: &[Mark]) -> Result<Vec<usize>, AllocError>
+    ensures { IfOk result (λ numbers. numbers.items ≡ map (λ m. place_in sets.now m.set) marks.now) }
 {
     let mut numbers = Vec::new(alloc);
     for mark in marks {
-        numbers.push(mark.set)?;
+        numbers.push(sets.place(mark.set))?;
     }
     Ok(numbers)
 }
@@ -49,8 +51,9 @@ pub fn alive_of(alloc: Global, unit: &TranslationUnit, flags: &[&str]) -> Result
         return Err(AllocError);
     }
     let sets = sets_of(alloc, unit.names(), flags, &walk.branches)?;
-    let imports = numbers_of_places(alloc, &places.imports)?;
-    let declarations = numbers_of_places(alloc, &places.declarations)?;
-    let names = numbers_of_marks(alloc, &walk.marks)?;
-    Ok(Alive::new(flags.len(), sets, imports, declarations, names))
+    let imports = place_sets(alloc, &sets, &places.imports)?;
+    let declarations = place_sets(alloc, &sets, &places.declarations)?;
+    let names = mark_sets(alloc, &sets, &walk.marks)?;
+    let kept = sets.into_kept(alloc)?;
+    Ok(Alive::new(flags.len(), kept, imports, declarations, names))
 }

@@ -78,10 +78,7 @@ fn either(set: Choices, other: Choices) -> Choices
     set
 }
 
-/// The choices of these flags under which a formula over the names of this table is true. Of what is no formula there are none.
-///
-/// # Errors
-/// Want of memory.
+/// The choices under which a formula is true; of what is no formula there are none. Refused for want of memory alone.
 pub fn formula_set(
     alloc: Global,
     names: &Names,

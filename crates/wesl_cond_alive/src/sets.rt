@@ -1,5 +1,5 @@
 //! The sets of choices that a walk numbers.
-ghost use Rattle.std.specs.Prelude.{◌≡◌, ◌<◌, ◌≤◌, ℕ, [], IfOk, Some, cond, length, map, true};
+ghost use Rattle.std.specs.Prelude.{◌≡◌, ◌<◌, ◌≤◌, ℕ, IfOk, Some, cond, length, map, true};
 ghost use Rattle.std.specs.Option.{option_map};
 ghost use Rattle.wesl_tree_base.specs.Borrowed.{texts};
 ghost use Rattle.wesl_cond_chains.specs.Formulas.{form};
@@ -7,13 +7,14 @@ ghost use Rattle.wesl_cond_chains.specs.Picked.{Choice};
 ghost use Rattle.wesl_cond_choices.specs.Choices.{has};
 ghost use Rattle.wesl_tree_syntax.specs.View.{expression_view};
 ghost use Rattle.wesl_cond_alive.specs.Choices.{IsSetOf, choice_by};
-ghost use Rattle.wesl_cond_alive.specs.Sets.{AreNested, AreSetsOf, IsNarrowed, value};
+ghost use Rattle.wesl_cond_alive.specs.Sets.{AreNested, HasFirst, HasSetsOf, IsNarrowed, value};
 ghost use Rattle.wesl_cond_alive.specs.Views.{branch_view};
 
 use crate::formulas::formula_set;
 use crate::walk::Branch;
 use std::alloc::{AllocError, Global};
 use wesl_cond_choices::choices::Choices;
+use wesl_cond_sets::SetNumbers;
 use wesl_tree_names::Names;
 use wesl_tree_syntax::Expression;
 
@@ -58,39 +59,38 @@ fn narrowed(holder: &Choices, left: &Choices, own: &Choices) -> Result<Choices, 
 }
 
 /// The set of all choices, and the empty one.
-fn first_sets(alloc: Global, flags: usize) -> Result<Vec<Choices>, AllocError>
+fn first_sets(alloc: Global, flags: usize) -> Result<SetNumbers, AllocError>
     requires { flags ≤ 16 }
-    ensures two { IfOk result (λ sets. length sets.items ≡ 2) }
-    ensures sets { IfOk result (λ sets. (choice : ℕ → Choice ℕ) → AreSetsOf flags choice sets.items []) }
+    ensures { IfOk result (λ s. HasFirst flags s) }
 {
-    let mut sets = Vec::new(alloc);
-    sets.push(Choices::all(alloc, flags)?)?;
-    sets.push(Choices::none(alloc, flags)?)?;
+    let mut sets = SetNumbers::new(alloc);
+    sets.add(Choices::all(alloc, flags)?)?;
+    sets.add(Choices::none(alloc, flags)?)?;
     Ok(sets)
 }
 
-/// The sets of choices of these flags that branches have, after that of all choices and the empty one.
-///
-/// # Errors
-/// Want of memory.
+/// The sets of choices that branches have, after that of all choices and the empty one. Refused for want of memory alone.
 pub fn sets_of(
     alloc: Global,
     names: &Names,
     flags: &[&str],
     branches: &[Branch],
-) -> Result<Vec<Choices>, AllocError>
+) -> Result<SetNumbers, AllocError>
     requires few { length flags.now ≤ 16 }
     requires nested { AreNested 2 (map branch_view branches.now) }
-    ensures { IfOk result (λ sets. AreSetsOf (length flags.now) (choice_by names.now (texts flags.now)) sets.items (map branch_view branches.now)) }
+    ensures { IfOk result (λ s. HasSetsOf (length flags.now) (choice_by names.now (texts flags.now)) s (map branch_view branches.now)) }
 {
     let mut sets = first_sets(alloc, flags.len())?;
     let mut left = Choices::all(alloc, flags.len())?;
     for branch in branches {
         let own = own_set(alloc, names, flags, branch.formula)?;
         begin(alloc, &mut left, branch.begins)?;
-        let set = narrowed(&sets[branch.holder], &left, &own)?;
+        let Some(holder) = sets.get(branch.holder) else {
+            unreachable!()
+        };
+        let set = narrowed(holder, &left, &own)?;
         left.without(&own);
-        sets.push(set)?;
+        sets.add(set)?;
     }
     Ok(sets)
 }

@@ -1,5 +1,5 @@
 -- Sets of choices of feature flags. A choice of n flags is a number below 2 ^ n, whose bit i is the value of flag i.
-use Rattle.std.specs.Prelude.{◌≡◌, ℕ, zero, suc, ◌-◌, ◌/◌, ◌%◌, ◌^◌, ◌<◌, ◌≤◌, nat_eq, Bool, true, List, [], ◌∷◌, ◌++◌, length, slice_index}
+use Rattle.std.specs.Prelude.{◌≡◌, ℕ, zero, suc, ◌-◌, ◌/◌, ◌%◌, ◌^◌, ◌<◌, ◌≤◌, nat_eq, Bool, true, false, List, [], ◌∷◌, ◌++◌, length, slice_index}
 use Rattle.std.specs.Int.{bit_at}
 
 -- how many flags the choices are of, and a bit for each choice: 64 to a word, the lowest first
@@ -28,6 +28,10 @@ pub record IsSet (c : Choices) : Type 0 where
 -- some choice is in both
 abbrev pub Meet : Choices → Choices → Type 0
 Meet a b = (k : ℕ) × (k < 2 ^ a.flags) × (has a k ≡ true) × (has b k ≡ true)
+
+-- no choice is in it
+abbrev pub IsEmpty : Choices → Type 0
+IsEmpty c = (k : ℕ) → has c k ≡ false
 
 -- the numbers below n
 abbrev pub below : ℕ → List ℕ

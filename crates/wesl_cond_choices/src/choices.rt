@@ -3,9 +3,15 @@
 //! A choice says of each flag whether it is true. With n flags it is a number below 2 ^ n, whose bit i is the value of flag i.
 ghost use Rattle.std.specs.Prelude.{◌≡◌, ◌↔◌, ℕ, ◌/◌, ◌%◌, ◌^◌, ◌*◌, ◌+◌, ◌<◌, ◌≤◌, nat_eq, nat_lt, not, ◌&&◌, ◌||◌, IsTrue, true, false, IfOk, length};
 ghost use Rattle.std.specs.Int.{bit_at};
-ghost use Rattle.wesl_cond_choices.specs.Choices.{has, has_bit, word_count, Meet};
+ghost use Rattle.wesl_cond_choices.specs.Choices.{has, has_bit, word_count, IsEmpty, Meet};
+ghost use Rattle.std.specs.Hash as fed;
+ghost use Rattle.std.specs.Cmp.Lexicographic.{pointwise};
+ghost use Rattle.std.specs.Ordering.{eq_of_both, on};
+ghost use Rattle.std.specs.Cmp.Rules.{comparing, hashing};
+ghost use Rattle.std.proofs.Common.{rules};
 
 use std::alloc::{AllocError, Global};
+use std::hash::{Hash, Hasher};
 use std::marker::Model;
 
 /// A set of choices of as many flags: at most 16, so that it takes at most 1,024 words.
@@ -29,6 +35,30 @@ impl Model for Choices {
     ghost view = { λ c. record { flags = c.flags; words = c.words.items } };
 
     ghost invariant = { λ c. choices.IsSet (record { flags = c.flags; words = c.words.items }) };
+}
+
+impl PartialEq for Choices {
+    ghost eq = { eq_of_both (on (λ c. c.flags) nat_eq) (on (λ c. c.words) (pointwise nat_eq)) };
+
+    ghost laws = { Prim.search (comparing, rules) };
+
+    fn eq(&self, other: &Choices) -> bool {
+        self.flags == other.flags && self.words == other.words
+    }
+}
+
+impl Eq for Choices {
+    ghost laws = { Prim.search (comparing, rules) };
+}
+
+impl Hash for Choices {
+    ghost hash_input = { λ c. fed.slice fed.u64 c.words };
+
+    ghost respects_eq = { Prim.search (hashing, rules) };
+
+    fn hash<H: Hasher>(&self, state: &mut H) {
+        self.words.hash(state);
+    }
 }
 
 /// How many words a set over these flags has.
@@ -228,6 +258,13 @@ impl Choices {
         ensures { IsTrue result ↔ Meet self.now other.now }
     {
         words_meet(&self.words, &other.words)
+    }
+
+    /// Whether it has no choice.
+    pub fn is_empty(&self) -> bool
+        ensures { IsTrue result ↔ IsEmpty self.now }
+    {
+        !words_meet(&self.words, &self.words)
     }
 
     /// The same set once more.
