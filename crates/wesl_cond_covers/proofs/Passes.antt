@@ -5,7 +5,7 @@ use Rattle.wesl_cond_choices.specs.declared.place.Place.{Place}
 use Rattle.wesl_cond_choices.specs.Places.{is_always, keeps, together}
 use Rattle.wesl_cond_choices.specs.Choices.{Choices, has}
 use Rattle.wesl_cond_choices.specs.Alive.{AreChoicesOf, set_has}
-use Rattle.wesl_cond_covers.specs.Unseen.{AreIn, AreUnions, IsIn}
+use Rattle.wesl_cond_covers.specs.Unseen.{AreIn, AreUnions, IsIn, MayKeep, may_have}
 use Rattle.wesl_cond_covers.specs.LevelView.{LevelPasses, LevelsPass}
 use Rattle.wesl_cond_covers.specs.declared.level.Level.{Level}
 
@@ -40,10 +40,10 @@ kept_both (kept ∷ alive) a b t = by (keeps kept a && keeps kept b) refl t (λ 
     by false e u rest = let (k, r) = rest u in (suc k, r)
 
 -- two places that are in sets which meet nowhere are not seen from each other
-unseen : (alive : List (List Place)) (from p : Place) (set c : Choices) → IsIn alive set from → IsIn alive c p
-    → ((k : ℕ) → has set k ≡ true → has c k ≡ true → ⊥) → together alive from p ≡ false
+unseen : (alive : List (List Place)) (from p : Place) (set : Option Choices) (c : Choices) → MayKeep alive set from → IsIn alive c p
+    → ((k : ℕ) → may_have k set ≡ true → has c k ≡ true → ⊥) → together alive from p ≡ false
 unseen alive from p set c f g apart =
-    not_true (together alive from p) (λ t. let (k, (kept, (at, (one, other)))) = kept_both alive from p t in apart k (f.held k kept at one) (g.held k kept at other))
+    not_true (together alive from p) (λ t. let (k, (kept, (at, (one, other)))) = kept_both alive from p t in apart k (f k kept at one) (g.held k kept at other))
 
 -- the choices that keep a place, where they are known
 pub in_known : (alive : List (List Place)) (place : Place) (known : Option Choices) (set : Choices) → known ≡ Some set → (is_always place ≡ true → known ≡ None)
@@ -53,6 +53,12 @@ in_known alive place known set is always kept = by (is_always place) refl
     by : (b : Bool) → is_always place ≡ b → IsIn alive set place
     by true e = absurd (let f : known ≡ None = always e in let z : ⊥ = cc in z)
     by false e = record { apart = e; held = λ k l at t. sym (sym t ∙ (kept e k l at ∙ ap (λ (o : Option Choices). set_has k o) is)) }
+
+-- each choice that keeps a place is among those that are known to
+pub may_keep : (alive : List (List Place)) (place : Place) (known : Option Choices) → (is_always place ≡ true → known ≡ None)
+    → (is_always place ≡ false → AreChoicesOf alive place known) → MayKeep alive known place
+may_keep alive place None always kept k l at t = refl
+may_keep alive place (Some set) always kept k l at t = (in_known alive place (Some set) set refl always kept).held k l at t
 
 -- a place stays in a set that grows
 pub in_more : (alive : List (List Place)) (place : Place) (old new : Choices) → ((k : ℕ) → has old k ≡ true → has new k ≡ true) → IsIn alive old place → IsIn alive new place
@@ -78,7 +84,7 @@ one_more n m start span e begins = let f : (n + 1) * span ≡ n * span + span = 
     begun = omega (arith, begins)
 
 -- none of the places of a union is seen that meets nothing
-pub level_passes : (l : Level) (set c : Choices) (n i : ℕ) → n * l.span ≡ i → slice_get l.unions.items n ≡ Some (Some c) → ((k : ℕ) → has set k ≡ true → has c k ≡ true → ⊥)
+pub level_passes : (l : Level) (set : Option Choices) (c : Choices) (n i : ℕ) → n * l.span ≡ i → slice_get l.unions.items n ≡ Some (Some c) → ((k : ℕ) → may_have k set ≡ true → has c k ≡ true → ⊥)
     → LevelPasses l set i (i + l.span)
 level_passes l set c n i begins at apart alive places from f h k p low high there =
     let q : IsIn alive c p = h n c at k p (omega (arith, begins, low)) (omega (arith, begins, high)) there in
@@ -86,12 +92,12 @@ level_passes l set c n i begins at apart alive places from f h k p low high ther
 
 -- ---- levels
 
-pub pass_none : (levels : List Level) (set : Choices) (i : ℕ) → LevelsPass levels set i i
+pub pass_none : (levels : List Level) (set : Option Choices) (i : ℕ) → LevelsPass levels set i i
 pass_none levels set i alive places from f h k p low high at = absurd (omega (arith, low, high))
 
-pub pass_level : (levels : List Level) (l : Level) (set : Choices) (i j m : ℕ) → Contains levels l → LevelPasses l set i m → j ≤ m → LevelsPass levels set i j
+pub pass_level : (levels : List Level) (l : Level) (set : Option Choices) (i j m : ℕ) → Contains levels l → LevelPasses l set i m → j ≤ m → LevelsPass levels set i j
 pass_level levels l set i j m there passes within alive places from f h k p low high at = passes alive places from f (h l there) k p low (omega (arith, high, within)) at
 
-pub pass_on : (levels : List Level) (set : Choices) (i j m : ℕ) → LevelsPass levels set i j → LevelsPass levels set j m → LevelsPass levels set i m
+pub pass_on : (levels : List Level) (set : Option Choices) (i j m : ℕ) → LevelsPass levels set i j → LevelsPass levels set j m → LevelsPass levels set i m
 pass_on levels set i j m first then alive places from f h k p low high at =
     elim (cases_lt k j) [ inl before ↦ first alive places from f h k p low before at | inr after ↦ then alive places from f h k p after high at ]

@@ -1,10 +1,19 @@
 -- Unions of the sets of choices that keep places which follow on each other.
-use Rattle.std.specs.Prelude.{◌≡◌, ℕ, ◌+◌, ◌*◌, ◌<◌, ◌≤◌, true, false, List, slice_get, Option, Some}
+use Rattle.std.specs.Prelude.{◌≡◌, ℕ, ◌+◌, ◌*◌, ◌<◌, ◌≤◌, Bool, true, false, List, slice_get, Option, None, Some}
 use Rattle.wesl_cond_choices.specs.declared.place.Place.{Place}
 use Rattle.wesl_cond_choices.specs.Choices.{Choices, has}
 use Rattle.wesl_cond_choices.specs.Places.{is_always, keeps, together}
 
+-- whether a choice is in the set, as any may be where there is no set
+abbrev pub may_have : ℕ → Option Choices → Bool
+may_have k None = true
+may_have k (Some c) = has c k
+
 module _ (alive : List (List Place)) where
+  -- each choice that keeps the place is in the set, where there is one
+  abbrev pub MayKeep : Option Choices → Place → Type 0
+  MayKeep set place = (k : ℕ) (kept : List Place) → slice_get alive k ≡ Some kept → keeps kept place ≡ true → may_have k set ≡ true
+
   -- the place is not the module itself, and all choices that keep it are in the set
   pub record IsIn (set : Choices) (place : Place) : Type 0 where
     pub apart : is_always place ≡ false

@@ -1,5 +1,5 @@
 //! Levels of unions of the sets of places in a row, by which many places that are not seen are passed at once.
-ghost use Rattle.std.specs.Prelude.{◌≡◌, ℕ, ◌<◌, ◌≤◌, [], IfOk, List, OnOk};
+ghost use Rattle.std.specs.Prelude.{◌≡◌, ℕ, ◌<◌, ◌≤◌, [], option_copied, IfOk, List, OnOk};
 ghost use Rattle.wesl_cond_choices.specs.declared.place.Place.{Place};
 ghost use Rattle.wesl_cond_covers.specs.Unseen.{AreUnseen};
 ghost use Rattle.wesl_cond_covers.specs.LevelView.{AreLevelsOf, LevelsPass};
@@ -60,11 +60,11 @@ fn add_levels(
     Ok(())
 }
 
-/// The index behind the widest union that begins with the place at this index, and that has none of these choices; the index
-/// itself, where there is none.
-fn behind(levels: &[Level], set: &Choices, index: usize) -> usize
+/// The index behind the widest union that begins with the place at this index, and that has none of these choices, or none at
+/// all where no set is given; the index itself, where there is none.
+fn behind(levels: &[Level], set: Option<&Choices>, index: usize) -> usize
     ensures ahead { index ≤ result }
-    ensures unseen { LevelsPass levels.now set.now index result }
+    ensures unseen { LevelsPass levels.now (option_copied set.entry) index result }
 {
     let mut behind = index;
     for level in levels {
@@ -76,10 +76,11 @@ fn behind(levels: &[Level], set: &Choices, index: usize) -> usize
     behind
 }
 
-/// The index of the first place, from one index on, with which no union begins that has none of these choices.
-fn next(levels: &[Level], set: &Choices, index: usize) -> usize
+/// The index of the first place, from one index on, with which no union begins that has none of these choices, or none at all
+/// where no set is given.
+fn next(levels: &[Level], set: Option<&Choices>, index: usize) -> usize
     ensures ahead { index ≤ result }
-    ensures unseen { LevelsPass levels.now set.now index result }
+    ensures unseen { LevelsPass levels.now (option_copied set.entry) index result }
 {
     let mut at = index;
     let mut end = behind(levels, set, at);
@@ -119,9 +120,6 @@ impl Covers {
         ensures ahead { index ≤ result }
         ensures unseen { (places : List Place) → AreCoversOf alive.now places self.now → AreUnseen alive.now places from index result }
     {
-        match alive.choices_of(from) {
-            Some(set) => next(&self.levels, set, index),
-            None => index,
-        }
+        next(&self.levels, alive.choices_of(from), index)
     }
 }

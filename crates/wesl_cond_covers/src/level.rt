@@ -1,7 +1,7 @@
 //! Unions of the sets of as many places each, by which that many places are passed at once.
-ghost use Rattle.std.specs.Prelude.{◌≡◌, ◌+◌, ◌<◌, slice_get, IfOk, IfSome, IsTrue, Some};
+ghost use Rattle.std.specs.Prelude.{◌≡◌, ◌+◌, ◌<◌, option_copied, slice_get, IfOk, IfSome, IsTrue, Some};
 
-use crate::unions::{add_unions, are_apart};
+use crate::unions::{add_unions, is_apart};
 use std::alloc::{AllocError, Global};
 use wesl_cond_choices::alive::Alive;
 use wesl_cond_choices::choices::Choices;
@@ -50,15 +50,16 @@ impl Level {
         }
     }
 
-    /// Whether a union begins with the place at this index, and none of its choices is in this set.
-    pub(crate) fn passes(&self, set: &Choices, index: usize) -> bool
-        ensures { IsTrue result → LevelPasses self.now set.now index (index + self.now.span) }
+    /// Whether a union begins with the place at this index, and none of its choices is in this set; where there is no set, it
+    /// has none.
+    pub(crate) fn passes(&self, set: Option<&Choices>, index: usize) -> bool
+        ensures { IsTrue result → LevelPasses self.now (option_copied set.entry) index (index + self.now.span) }
     {
         if index % self.span != 0 {
             return false;
         }
         match self.union(index / self.span) {
-            Some(union) => are_apart(set, union),
+            Some(union) => is_apart(set, union),
             None => false,
         }
     }

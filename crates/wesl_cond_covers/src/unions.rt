@@ -1,7 +1,7 @@
 //! Unions of the sets of choices that keep places which follow on each other.
-ghost use Rattle.std.specs.Prelude.{◌≡◌, ◌↔◌, ℕ, ◌<◌, ◌≤◌, nat_eq, ◌&&◌, ◌||◌, [], length, slice_get, IfOk, IfSome, IsTrue, OnOk, Some};
+ghost use Rattle.std.specs.Prelude.{◌≡◌, ◌↔◌, ℕ, ◌<◌, ◌≤◌, nat_eq, ◌&&◌, ◌||◌, [], length, option_copied, slice_get, IfOk, IfSome, IsTrue, OnOk, Some};
 ghost use Rattle.wesl_cond_choices.specs.Choices.{has};
-ghost use Rattle.wesl_cond_covers.specs.Unseen.{AreIn, AreUnions, IsIn};
+ghost use Rattle.wesl_cond_covers.specs.Unseen.{AreIn, AreUnions, IsIn, may_have};
 
 use std::alloc::{AllocError, Global};
 use wesl_cond_choices::alive::Alive;
@@ -9,10 +9,20 @@ use wesl_cond_choices::choices::Choices;
 use wesl_cond_choices::place::Place;
 
 /// Whether no choice is in both, where they are sets of choices of as many flags.
-pub(crate) fn are_apart(first: &Choices, second: &Choices) -> bool
+fn are_apart(first: &Choices, second: &Choices) -> bool
     ensures { IsTrue result → (k : ℕ) → IsTrue (has first.now k) → IsTrue (has second.now k) → ⊥ }
 {
     first.flags() == second.flags() && !first.meets(second)
+}
+
+/// Whether the union has no choice of the set, where they are of as many flags; where there is no set, no choice at all.
+pub(crate) fn is_apart(set: Option<&Choices>, union: &Choices) -> bool
+    ensures { IsTrue result → (k : ℕ) → IsTrue (may_have k (option_copied set.entry)) → IsTrue (has union.now k) → ⊥ }
+{
+    match set {
+        Some(set) => are_apart(set, union),
+        None => union.is_empty(),
+    }
 }
 
 /// Adds the choices of a set, where it is one of choices of as many flags; and answers whether it is.

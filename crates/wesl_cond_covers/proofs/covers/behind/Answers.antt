@@ -1,4 +1,4 @@
-use Rattle.std.proofs.Common.{◌≡◌, ◌≤◌, ◌+◌, true, Contains, List, arith, sym, subst}
+use Rattle.std.proofs.Common.{◌≡◌, ◌≤◌, ◌+◌, true, option_copied, Contains, List, arith, sym, subst}
 use Rattle.std.proofs.lemmas.List.Elements.{Contains-get_or}
 use Rattle.wesl_cond_covers.specs.declared.level.Level.{Level}
 use Rattle.wesl_cond_covers.proofs.Passes.{pass_level}
@@ -14,5 +14,5 @@ loop-level-preserved c =
     let ahead : c.args.index ≤ c.saturating_add-behind.result = omega (arith, c.saturating_add-behind.ensures) in
     record {
       ahead = ahead;
-      passed = pass_level levels l c.args.set.now c.args.index c.saturating_add-behind.result (c.args.index + l.span) there (c.passes.ensures passes) within;
+      passed = pass_level levels l (option_copied c.args.set) c.args.index c.saturating_add-behind.result (c.args.index + l.span) there (c.passes.ensures passes) within;
     }
