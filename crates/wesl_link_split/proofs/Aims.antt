@@ -58,7 +58,7 @@ module _ (s : Sight) (aims : List (Vec Aim)) (are : map (λ v. v.items) aims ≡
 
 -- ---- two binders that are one
 
-path_id_is : (p q : PathId) → (p.0 == q.0) ≡ true → p ≡ q
+pub path_id_is : (p q : PathId) → (p.0 == q.0) ≡ true → p ≡ q
 path_id_is p q e = ap (λ (k : ℕ). record { 0 = k }) ((Decides-eqb p.0 q.0).0 e)
 
 pub binder_is : (b c : Ours) → same_binder b c ≡ true → b ≡ c

@@ -14,7 +14,8 @@ use Rattle.wesl_link_split.specs.Split.{Binder, Scope}
 use Rattle.wesl_link_split.specs.declared.binders.Answered.{Answered}
 use Rattle.wesl_link_split.specs.declared.sight.Sight.{Sight}
 use Rattle.wesl_tree_interner.proofs.Different.{get_cases}
-use Rattle.wesl_link_split.proofs.Unsplit.{and_false, seen_anywhere}
+use Rattle.wesl_link_targets.proofs.Passed.{and_false}
+use Rattle.wesl_link_split.proofs.Unsplit.{seen_anywhere}
 
 abbrev Ours : Type 0
 Ours = Binder PathId NameId

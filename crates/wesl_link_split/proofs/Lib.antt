@@ -10,3 +10,5 @@ pub mod Once
 pub mod Asked
 pub mod Anywhere
 pub mod Passing
+pub mod Leads
+pub mod OneTarget

@@ -40,7 +40,7 @@ filter_map {X} {Y} p f (x ∷ xs) = by (p (f x)) (filter_map p f xs)
     by true e = ap (λ (l : List Y). f x ∷ l) e
     by false e = e
 
-any_map : {X Y : Type 0} (p : Y → Bool) (f : X → Y) (xs : List X) → list_any p (map f xs) ≡ list_any (λ x. p (f x)) xs
+pub any_map : {X Y : Type 0} (p : Y → Bool) (f : X → Y) (xs : List X) → list_any p (map f xs) ≡ list_any (λ x. p (f x)) xs
 any_map p f [] = refl
 any_map p f (x ∷ xs) = ap (λ b. p (f x) || b) (any_map p f xs)
 

@@ -85,3 +85,6 @@ covered_at alive binders names groups covers i n c grouped covered named held =
 pub if_some : {X : Type 0} (P Q : X → Type 0) (o : Option X) → ((x : X) → P x → Q x) → IfSome o P → IfSome o Q
 if_some P Q None more h = tt
 if_some P Q (Some x) more h = more x h
+
+pub some_is : {X : Type 0} (P : X → Type 0) (o : Option X) (x : X) → o ≡ Some x → IfSome o P → P x
+some_is {X} P o x is h = subst (λ (p : Option X). IfSome p P) is h

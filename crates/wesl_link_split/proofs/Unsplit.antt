@@ -8,6 +8,7 @@ use Rattle.wesl_cond_choices.specs.declared.place.Place.TheVariants.{Always}
 use Rattle.wesl_tree_base.specs.declared.ids.NameId.{NameId}
 use Rattle.wesl_link_symbols.specs.declared.ids.PathId.{PathId}
 use Rattle.wesl_link_symbols.specs.declared.symbols.Reference.{Reference}
+use Rattle.wesl_link_targets.proofs.Passed.{and_false}
 use Rattle.wesl_link_split.specs.Grouped.{ids, same_id, has_declaration, first_import, IsStart}
 use Rattle.wesl_link_split.specs.SightView.{whole}
 use Rattle.wesl_link_split.specs.Split as split
@@ -21,7 +22,7 @@ Ours = Binder PathId NameId
 
 -- ---- lists
 
-filter_all : {X : Type 0} (p : X → Bool) (xs : List X) → ((x : X) → p x ≡ true) → filter p xs ≡ xs
+pub filter_all : {X : Type 0} (p : X → Bool) (xs : List X) → ((x : X) → p x ≡ true) → filter p xs ≡ xs
 filter_all p [] h = refl
 filter_all p (x ∷ xs) h = ap (λ b. if b then x ∷ filter p xs else filter p xs) (h x) ∙ ap (λ l. x ∷ l) (filter_all p xs h)
 
@@ -52,10 +53,6 @@ filter_some {X} p (x ∷ xs) = by (p x) (filter_some p xs)
         → ((if b then x ∷ filter p xs else filter p xs) ≡ [] → (b || list_any p xs) ≡ false) × ((y : X) (ys : List X) → (if b then x ∷ filter p xs else filter p xs) ≡ y ∷ ys → (b || list_any p xs) ≡ true)
     by true h = ((λ e. absurd (let z : ⊥ = cc in z)), (λ y ys e. refl))
     by false h = h
-
-pub and_false : (a : Bool) → (a && false) ≡ false
-and_false true = refl
-and_false false = refl
 
 -- ---- no name has two targets
 

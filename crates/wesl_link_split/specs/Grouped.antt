@@ -10,6 +10,9 @@ use Rattle.wesl_cond_covers.specs.declared.covers.Covers.{Covers}
 use Rattle.wesl_cond_choices.specs.declared.place.Place.{Place}
 use Rattle.wesl_link_symbols.specs.declared.ids.PathId.{PathId}
 use Rattle.wesl_tree_base.specs.declared.ids.NameId.{NameId}
+use Rattle.wesl_link_symbols.specs.RowView.{IsCovered}
+use Rattle.wesl_link_symbols.specs.declared.symbols.Import.{Import}
+use Rattle.wesl_link_targets.specs.declared.targets.Targets.{Targets}
 use Rattle.wesl_link_symbols.specs.declared.symbols.Reference.{Reference}
 use Rattle.wesl_tree_interner.specs.Different.{AreDifferent}
 use Rattle.wesl_link_split.specs.Split as split
@@ -52,6 +55,23 @@ abbrev pub IsStart : Start → List (Binder PathId NameId) → Type 0
 IsStart starts.Nothing bs = bs ≡ []
 IsStart starts.Several bs = split.has_two_targets ids bs ≡ true
 IsStart (starts.One b) bs = (split.has_two_targets ids bs ≡ false) × (take 1 bs ≡ b ∷ [])
+
+-- a binder as an import in a row: published, if it is a declaration
+abbrev pub kind_of : Binder PathId NameId → Import PathId NameId
+kind_of b = record { bound = b.bound; path = b.path; item = b.item; published = b.declares; place = b.stands; from = Always; order = 0 }
+
+-- the binders of names with several targets, as imports
+abbrev pub kinds_of : List (Binder PathId NameId) → List (Import PathId NameId)
+kinds_of bs = map kind_of (filter (λ b. split.is_split ids bs b.bound) bs)
+
+-- they are these imports in some order, if there are some, with the unions of the choices that keep them
+abbrev pub AreSorted : List (List Place) → List (Import PathId NameId) → Option Targets → Type 0
+AreSorted alive kinds targets =
+    (t : Targets) → targets ≡ Some t → IsCovered alive t.row × ((p : Import PathId NameId → Bool) → list_any p t.row.imports.items ≡ list_any p kinds)
+
+-- a binder counts: where imports are asked for, an import
+abbrev pub may_lead : Bool → Binder PathId NameId → Bool
+may_lead is_import b = not (is_import && b.declares)
 
 -- this alone, if it is kept
 abbrev pub one_if : {X : Type 0} → Bool → X → List X
@@ -110,3 +130,7 @@ GroupsNext names groups b new_names new_groups =
 -- these are added, unless the name stands for two things
 abbrev pub AddsUnless : Bool → Bool → List (Reference PathId NameId) → List (Reference PathId NameId) → List (Reference PathId NameId) → Type 0
 AddsUnless b is_unclear old new more = (b ≡ is_unclear) × (new ≡ (if b then old else old ++ more))
+
+-- this is added, and is one thing
+abbrev pub AddsOne : Bool → List (Reference PathId NameId) → List (Reference PathId NameId) → Reference PathId NameId → Type 0
+AddsOne b old new r = (b ≡ false) × (new ≡ old ++ r ∷ [])

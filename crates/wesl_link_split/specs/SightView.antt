@@ -3,10 +3,12 @@ use Rattle.std.specs.Prelude.{◌≡◌, ◌≤◌, ◌<◌, ℕ, true, false, L
 use Rattle.std.specs.Global.{Vec}
 use Rattle.wesl_cond_choices.specs.declared.place.Place.{Place}
 use Rattle.wesl_cond_choices.specs.declared.place.Place.TheVariants.{Always}
+use Rattle.wesl_cond_covers.specs.CoversView.{AreCoversOf}
+use Rattle.wesl_cond_covers.specs.declared.covers.Covers.{Covers}
 use Rattle.wesl_link_symbols.specs.declared.ids.PathId.{PathId}
 use Rattle.wesl_tree_base.specs.declared.ids.NameId.{NameId}
 use Rattle.wesl_link_symbols.specs.declared.symbols.Reference.{Reference}
-use Rattle.wesl_link_split.specs.Grouped.{ids, has_declaration, one_of}
+use Rattle.wesl_link_split.specs.Grouped.{ids, has_declaration, one_of, places_of}
 use Rattle.wesl_link_split.specs.Split as split
 use Rattle.wesl_link_split.specs.Split.{Binder}
 use Rattle.wesl_link_split.specs.declared.binders.Aim.{Aim}
@@ -35,6 +37,10 @@ IsGroup s bs = (b : Binder PathId NameId) → Contains bs b → bs ≡ split.of_
 abbrev pub IsPassed : split.Scope PathId NameId → NameId → Place → ℕ → ℕ → Type 0
 IsPassed s n from i j =
     (k : ℕ) (b : Binder PathId NameId) → i ≤ k → k < j → slice_get (split.of_name ids n s.binders) k ≡ Some b → split.sees ids s from (split.place_at ids s n b.stands) ≡ false
+
+-- the name has several targets, and these are the unions of the choices that keep its binders
+abbrev pub HasUnions : split.Scope PathId NameId → NameId → Covers → Type 0
+HasUnions s n covers = (split.is_split ids s.binders n ≡ true) × AreCoversOf s.alive (places_of (split.of_name ids n s.binders)) covers
 
 -- of each bound name what its binders aim at, where some name of the module has several targets
 abbrev pub AreAims : Sight → List (Vec Aim) → Type 0

@@ -211,17 +211,33 @@ pub enum Start {
     One(Binder<PathId, NameId>),
 }
 
-/// With what a path begins, by the imports that are seen of the name with which it begins.
-pub(crate) fn start_of(imports: &[Binder<PathId, NameId>]) -> Start
-    ensures { grouped.IsStart result imports.now }
+/// A binder as an import in a row: published, if it is a declaration.
+pub(crate) fn kind_of(binder: &Binder<PathId, NameId>) -> Import<PathId, NameId>
+    ensures { result ≡ grouped.kind_of binder.now }
 {
-    if has_two_targets(imports) {
-        return Start::Several;
+    Import {
+        bound: binder.bound,
+        path: binder.path,
+        item: binder.item,
+        published: binder.declares,
+        place: binder.stands,
+        from: Place::Always,
+        order: 0,
     }
-    match imports.first() {
-        Some(import) => Start::One(*import),
-        None => Start::Nothing,
+}
+
+/// Adds the binder as an import, if it is kept.
+pub(crate) fn keep_kind(
+    kinds: &mut Vec<Import<PathId, NameId>>,
+    binder: &Binder<PathId, NameId>,
+    is_kept: bool,
+) -> Result<(), AllocError>
+    ensures { OnOk result (kinds.new.items ≡ kinds.old.items ++ grouped.one_if is_kept (grouped.kind_of binder.now)) }
+{
+    if is_kept {
+        kinds.push(kind_of(binder))?;
     }
+    Ok(())
 }
 
 /// What a binder aims at, and before which others it is asked.

@@ -1,15 +1,18 @@
 //! The binders of a module by their names, which of them are seen from a place, and what they aim at, by numbers (WESL,
 //! "Imports" and "ConditionalTranslation").
-ghost use Rattle.std.specs.Prelude.{◌≡◌, ◌≤◌, ◌++◌, [], if◌then◌else◌, length, map, not, slice_get, take, IfOk, IfSome, OnOk, Some};
+ghost use Rattle.std.specs.Prelude.{◌≡◌, ◌≤◌, ◌&&◌, ◌++◌, [], true, if◌then◌else◌, length, map, not, slice_get, take, IfOk, IfSome, OnOk, Some};
 ghost use Rattle.std.specs.List.{filter, list_any};
 ghost use Rattle.wesl_cond_covers.specs.CoversView.{AreCoversOf};
 ghost use Rattle.wesl_link_split.specs.Grouped as listed;
-ghost use Rattle.wesl_link_split.specs.Grouped.{ids, finding_view, places_of, AreCovered, AreGrouped, GroupsNext, IsStart};
+ghost use Rattle.wesl_link_split.specs.Grouped.{ids, finding_view, kind_of, kinds_of, may_lead, places_of, AreCovered, AreGrouped, AreSorted, GroupsNext, IsStart};
+ghost use Rattle.wesl_cond_choices.specs.declared.place.Place.TheVariants as places;
+ghost use Rattle.wesl_link_targets.specs.Sought.{is_sought};
+ghost use Rattle.wesl_link_targets.specs.TargetsView.{AreTargetsOf};
 ghost use Rattle.wesl_link_split.specs.Split as split;
 
 use crate::binders::{
-    Aim, Binder, Facts, Finding, Start, asks_for, facts_of, has_declaration, has_two_targets, keep,
-    placed, start_of,
+    Aim, Binder, Facts, Finding, Start, asks_for, facts_of, has_two_targets, keep, keep_kind,
+    kind_of, placed,
 };
 use indexmap::IndexSet;
 use std::alloc::{AllocError, Global};
@@ -17,7 +20,8 @@ use wesl_cond_choices::alive::Alive;
 use wesl_cond_choices::place::Place;
 use wesl_cond_covers::covers::Covers;
 use wesl_link_symbols::ids::{NameId, PathId};
-use wesl_link_symbols::symbols::Reference;
+use wesl_link_symbols::symbols::{Import, Reference};
+use wesl_link_targets::targets::{Sought, Targets};
 
 /// Puts a binder to those of its name.
 fn add_to_group(
@@ -54,10 +58,13 @@ pub struct Sight {
     alive: Alive,
     // Of each name with several targets unions of the choices that keep its binders, where choices are known.
     covers: Vec<Covers>,
+    // The binders of these names by their targets, where choices are known.
+    targets: Option<Targets>,
     pub ghost grouped: { AreGrouped binders.items names.keys groups.items },
     pub ghost facts_are: { facts.items ≡ map (λ g. listed.facts_of g.items) groups.items },
     pub ghost split: { is_any_split ≡ split.has_split ids binders.items },
     pub ghost covered: { AreCovered alive groups.items covers.items },
+    pub ghost sorted: { AreSorted alive (kinds_of binders.items) targets },
 }
 
 /// Puts each of these binders to those of its name. It holds nothing, so where memory is wanting nothing is let go.
@@ -147,22 +154,9 @@ fn add_covers(
     Ok(())
 }
 
-/// Adds those of these binders that are imports.
-fn add_imports(
-    found: &mut Vec<Binder<PathId, NameId>>,
-    binders: &[Binder<PathId, NameId>],
-) -> Result<(), AllocError>
-    requires { found.old.items ≡ [] }
-    ensures { OnOk result (found.new.items ≡ filter (λ b. not b.declares) binders.now) }
-{
-    for binder in binders {
-        keep(found, binder, !binder.declares)?;
-    }
-    Ok(())
-}
-
 impl Sight {
-    ghost use Rattle.wesl_link_split.specs.SightView.{aim_in, sight_view, whole, AreAims, IsGroup, IsPassed};
+    ghost use Rattle.wesl_link_split.specs.SightView.{aim_in, sight_view, whole, AreAims, HasUnions, IsGroup, IsPassed};
+    ghost use Rattle.wesl_tree_base.specs.declared.ids.NameId.{NameId};
 
     /// The module with this path and these binders, of which no choice of flags is known yet. Refused for want of memory
     /// alone.
@@ -189,6 +183,7 @@ impl Sight {
             is_any_split,
             alive: Alive::none(),
             covers,
+            targets: None,
         })
     }
 
@@ -198,15 +193,18 @@ impl Sight {
     {
         let mut covers = Vec::new(alloc);
         if !self.is_any_split {
-            return Ok(self.with_covers(alive, covers));
+            return Ok(self.with_covers(alive, covers, None));
         }
         add_covers(alloc, &alive, &mut covers, &self.groups)?;
-        Ok(self.with_covers(alive, covers))
+        let targets = self.targets_over(alloc, &alive)?;
+        Ok(self.with_covers(alive, covers, Some(targets)))
     }
 
-    /// The same module, of which some choice of flags keeps these places together, with the unions of its names' binders.
-    fn with_covers(self, alive: Alive, covers: Vec<Covers>) -> Sight
-        requires { AreCovered alive self.groups.items covers.items }
+    /// The same module, of which some choice of flags keeps these places together, with the unions of its names' binders, and
+    /// with these by their targets.
+    fn with_covers(self, alive: Alive, covers: Vec<Covers>, targets: Option<Targets>) -> Sight
+        requires covers { AreCovered alive self.groups.items covers.items }
+        requires targets { AreSorted alive (kinds_of self.binders.items) targets }
         ensures { sight_view result ≡ record { own = (sight_view self).own; binders = (sight_view self).binders; alive = alive } }
     {
         let Sight {
@@ -218,6 +216,7 @@ impl Sight {
             is_any_split,
             alive: _,
             covers: _,
+            targets: _,
         } = self;
         Sight {
             own,
@@ -228,7 +227,32 @@ impl Sight {
             is_any_split,
             alive,
             covers,
+            targets,
         }
+    }
+
+    /// Adds those of these binders that have names with several targets, as imports.
+    fn add_kinds(
+        &self,
+        kinds: &mut Vec<Import<PathId, NameId>>,
+        binders: &[Binder<PathId, NameId>],
+    ) -> Result<(), AllocError>
+        requires { kinds.old.items ≡ [] }
+        ensures { OnOk result (kinds.new.items ≡ map kind_of (filter (λ b. split.is_split ids (sight_view self.now).binders b.bound) binders.now)) }
+    {
+        for binder in binders {
+            keep_kind(kinds, binder, self.is_split(binder.bound))?;
+        }
+        Ok(())
+    }
+
+    /// The binders of names with several targets, by their targets, over what some choice of flags keeps together.
+    fn targets_over(&self, alloc: Global, alive: &Alive) -> Result<Targets, AllocError>
+        ensures { IfOk result (λ t. AreTargetsOf alive.now (kinds_of (sight_view self.now).binders) t) }
+    {
+        let mut kinds = Vec::new(alloc);
+        self.add_kinds(&mut kinds, &self.binders)?;
+        Targets::of(alloc, alive, &kinds)
     }
 
     /// What some choice of flags keeps together.
@@ -307,7 +331,7 @@ impl Sight {
         self.covers.get(index)
     }
 
-    /// The unions of a name's binders, where the name has several targets and choices are known.
+    /// The unions of a name's binders, where choices are known.
     fn covers_at(&self, name: NameId) -> Option<&Covers>
         ensures { IfSome result (λ c. AreCoversOf (sight_view self.now).alive (places_of (split.of_name ids name (sight_view self.now).binders)) c.now) }
     {
@@ -317,16 +341,25 @@ impl Sight {
         }
     }
 
-    /// The index of the first binder of a name, from one index on, that is not passed: from `from` none of those before it is
-    /// seen. Where the name has one target, none is passed.
-    pub(crate) fn next(&self, name: NameId, from: Place, index: usize) -> usize
-        ensures ahead { index ≤ result }
-        ensures unseen { IsPassed (sight_view self.now) name from index result }
+    /// The unions by which the binders of a name are passed that are not seen, where the name has several targets and choices
+    /// are known.
+    pub(crate) fn unions(&self, name: NameId, is_split: bool) -> Option<&Covers>
+        requires { is_split ≡ split.is_split ids (sight_view self.now).binders name }
+        ensures { IfSome result (λ c. HasUnions (sight_view self.now) name c.now) }
     {
-        if !self.is_split(name) {
-            return index;
+        if !is_split {
+            return None;
         }
-        match self.covers_at(name) {
+        self.covers_at(name)
+    }
+
+    /// The index of the first binder of a name with these unions, from one index on, that is not passed: from `from` none of
+    /// those before it is seen. Where there are none, none is passed.
+    pub(crate) fn next(&self, unions: Option<&Covers>, from: Place, index: usize) -> usize
+        ensures ahead { index ≤ result }
+        ensures unseen { (name : NameId) → IfSome unions.entry (λ c. HasUnions (sight_view self.now) name c.now) → IsPassed (sight_view self.now) name from index result }
+    {
+        match unions {
             Some(covers) => covers.next(&self.alive, from, index),
             None => index,
         }
@@ -344,11 +377,12 @@ impl Sight {
     {
         let group = self.group(name);
         let is_split = self.is_split(name);
-        let mut i = self.next(name, from, 0);
+        let unions = self.unions(name, is_split);
+        let mut i = self.next(unions, from, 0);
         'binders: while i < group.len() {
             let is_seen = self.sees(from, placed(is_split, group[i].stands));
             keep(found, &group[i], is_seen)?;
-            i = self.next(name, from, i + 1);
+            i = self.next(unions, from, i + 1);
         }
         Ok(())
     }
@@ -365,6 +399,100 @@ impl Sight {
         let mut found = Vec::new(alloc);
         self.add_seen(&mut found, name, from)?;
         Ok(found)
+    }
+
+    /// Whether one of these binders that are seen from a place is looked for.
+    fn is_sought_among(
+        &self,
+        group: &[Binder<PathId, NameId>],
+        from: Place,
+        sought: &Sought,
+    ) -> bool
+        ensures { result ≡ list_any (λ b. split.sees ids (sight_view self.now) from b.stands && is_sought sought.now (kind_of b)) group.now }
+    {
+        for binder in group {
+            if self.sees(from, binder.stands) && sought.is_met_by(&kind_of(binder)) {
+                return true;
+            }
+        }
+        false
+    }
+
+    /// Whether one of the binders of a name with several targets that are seen from a place is looked for.
+    pub(crate) fn is_sought_seen(&self, name: NameId, from: Place, sought: &Sought) -> bool
+        requires { split.is_split ids (sight_view self.now).binders name ≡ true }
+        ensures { result ≡ list_any (λ b. is_sought sought.now (kind_of b)) (split.seen ids (sight_view self.now) name from) }
+    {
+        match &self.targets {
+            Some(targets) => targets.has(&self.alive, name, from, sought),
+            None => self.is_sought_among(self.group(name), from, sought),
+        }
+    }
+
+    /// Whether a binder counts, and is seen from a place, by whether its name has several targets.
+    fn counts(
+        &self,
+        binder: &Binder<PathId, NameId>,
+        is_split: bool,
+        from: Place,
+        is_import: bool,
+    ) -> bool
+        ensures { result ≡ (may_lead is_import binder.now && split.sees ids (sight_view self.now) from (if is_split then binder.now.stands else places.Always)) }
+    {
+        !(is_import && binder.declares) && self.sees(from, placed(is_split, binder.stands))
+    }
+
+    /// The first of the binders of a name that are seen from a place; where so asked, the first that is an import.
+    fn first_seen(
+        &self,
+        name: NameId,
+        from: Place,
+        is_import: bool,
+    ) -> Option<Binder<PathId, NameId>>
+        ensures { result ≡ slice_get (filter (may_lead is_import) (split.seen ids (sight_view self.now) name from)) 0 }
+    {
+        let group = self.group(name);
+        let is_split = self.is_split(name);
+        let unions = self.unions(name, is_split);
+        let mut i = self.next(unions, from, 0);
+        'binders: while i < group.len() {
+            if self.counts(&group[i], is_split, from, is_import) {
+                return Some(group[i]);
+            }
+            i = self.next(unions, from, i + 1);
+        }
+        None
+    }
+
+    /// What the binders of a name with several targets lead to that are seen from a place, by the first of them; where so asked,
+    /// its imports alone.
+    fn lead_by(
+        &self,
+        name: NameId,
+        from: Place,
+        is_import: bool,
+        first: &Binder<PathId, NameId>,
+    ) -> Start
+        requires split { split.is_split ids (sight_view self.now).binders name ≡ true }
+        requires first { Some first.now ≡ slice_get (filter (may_lead is_import) (split.seen ids (sight_view self.now) name from)) 0 }
+        ensures { IsStart result (filter (may_lead is_import) (split.seen ids (sight_view self.now) name from)) }
+    {
+        let other = Sought::Other(is_import, first.path, first.item);
+        if self.is_sought_seen(name, from, &other) {
+            return Start::Several;
+        }
+        Start::One(*first)
+    }
+
+    /// What the binders of a name with several targets lead to that are seen from a place; where so asked, its imports alone.
+    pub(crate) fn lead(&self, name: NameId, from: Place, is_import: bool) -> Start
+        requires { split.is_split ids (sight_view self.now).binders name ≡ true }
+        ensures { IsStart result (filter (may_lead is_import) (split.seen ids (sight_view self.now) name from)) }
+    {
+        match self.first_seen(name, from, is_import) {
+            Some(first) => self.lead_by(name, from, is_import, &first),
+            None => Start::Nothing,
+        }
     }
 
     /// Adds of each binder of a name whether it is seen from a place.
@@ -423,23 +551,24 @@ impl Sight {
         Ok(sight)
     }
 
-    /// What a binder finds that sees these binders of its target.
+    /// What a binder finds, by what the binders of its target lead to that it sees.
     fn found_of(
         &self,
         alloc: Global,
         binder: &Binder<PathId, NameId>,
-        seen: &[Binder<PathId, NameId>],
+        lead: &Start,
     ) -> Result<Finding, AllocError>
-        ensures { IfOk result (λ f. finding_view f ≡ split.found_of ids (sight_view self.now) binder.now seen.now) }
+        requires { IsStart lead.now (split.seen ids (sight_view self.now) binder.now.item binder.now.stands) }
+        ensures { IfOk result (λ f. finding_view f ≡ split.found_of ids (sight_view self.now) binder.now (split.seen ids (sight_view self.now) binder.now.item binder.now.stands)) }
     {
-        let Some(first) = seen.first() else {
-            return Ok(Finding::Nothing);
-        };
-        if has_two_targets(seen) {
-            return Ok(Finding::Several);
+        match lead {
+            Start::Nothing => Ok(Finding::Nothing),
+            Start::Several => Ok(Finding::Several),
+            Start::One(first) => {
+                let sight = self.sight_if(alloc, self.leads_on(first), binder)?;
+                Ok(Finding::One(first.path, first.item, sight))
+            }
         }
-        let sight = self.sight_if(alloc, self.leads_on(first), binder)?;
-        Ok(Finding::One(first.path, first.item, sight))
     }
 
     /// How a binder finds what it aims at.
@@ -449,8 +578,8 @@ impl Sight {
         if !self.is_own_split(binder.path, binder.item) {
             return Ok(Finding::One(binder.path, binder.item, Vec::new(alloc)));
         }
-        let seen = self.seen(alloc, binder.item, binder.stands)?;
-        self.found_of(alloc, binder, &seen)
+        let lead = self.lead(binder.item, binder.stands, false);
+        self.found_of(alloc, binder, &lead)
     }
 
     /// Adds how each of these binders finds what it aims at.
@@ -552,38 +681,17 @@ impl Sight {
         Ok(())
     }
 
-    /// The imports of a name that are seen from a place.
-    fn seen_imports(
-        &self,
-        alloc: Global,
-        name: NameId,
-        here: Place,
-    ) -> Result<Vec<Binder<PathId, NameId>>, AllocError>
-        ensures { IfOk result (λ v. v.items ≡ split.seen_imports ids (sight_view self.now) name here) }
-    {
-        let seen = self.seen(alloc, name, here)?;
-        let mut found = Vec::new(alloc);
-        add_imports(&mut found, &seen)?;
-        Ok(found)
-    }
-
-    /// With what a path begins that begins with a name and is used at `here`. Refused for want of memory alone.
-    pub(crate) fn start(
-        &self,
-        alloc: Global,
-        name: NameId,
-        here: Place,
-    ) -> Result<Start, AllocError>
-        ensures { IfOk result (λ s. IsStart s (split.seen_imports ids (sight_view self.now) name here)) }
+    /// With what a path begins that begins with a name and is used at `here`.
+    pub(crate) fn start(&self, name: NameId, here: Place) -> Start
+        ensures { IsStart result (split.seen_imports ids (sight_view self.now) name here) }
     {
         let facts = self.facts(name);
         if facts.is_split {
-            let imports = self.seen_imports(alloc, name, here)?;
-            return Ok(start_of(&imports));
+            return self.lead(name, here, true);
         }
         match facts.import {
-            Some(import) => Ok(Start::One(import)),
-            None => Ok(Start::Nothing),
+            Some(import) => Start::One(import),
+            None => Start::Nothing,
         }
     }
 

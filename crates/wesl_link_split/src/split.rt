@@ -1,9 +1,10 @@
 //! Names with several targets in one module, and what its names ask for, by numbers (WESL, "Imports" and
 //! "ConditionalTranslation").
 ghost use Rattle.std.specs.Prelude.{◌≡◌, ◌++◌, ℕ, [], true, false, map, slice_get, take, IfOk, IfSome, OnOk, Some};
-ghost use Rattle.wesl_link_split.specs.Grouped.{ids, IsStart, AddsUnless};
+ghost use Rattle.wesl_link_split.specs.Grouped.{ids, AddsOne, AddsUnless, IsStart};
 ghost use Rattle.wesl_link_split.specs.SightView.{aim_in, sight_view, AreAims, AreAnswers, IsAnswered};
 ghost use Rattle.wesl_link_split.specs.Split as split;
+ghost use Rattle.wesl_link_split.specs.declared.binders.Start.TheVariants.{One};
 ghost use Rattle.wesl_tree_base.specs.declared.ids.NameId.{NameId};
 
 use crate::binders::{
@@ -16,6 +17,7 @@ use wesl_cond_choices::alive::Alive;
 use wesl_cond_choices::place::Place;
 use wesl_link_symbols::ids::{NameId, PathId};
 use wesl_link_symbols::symbols::{Import, Reference};
+use wesl_link_targets::targets::Sought;
 
 /// Adds the first of these references, if there is one.
 fn add_first(
@@ -29,6 +31,17 @@ fn add_first(
     };
     found.push(*reference)?;
     Ok(())
+}
+
+/// Adds what is asked for, which is one thing.
+fn add_reference(
+    found: &mut Vec<Reference<PathId, NameId>>,
+    reference: &Reference<PathId, NameId>,
+) -> Result<bool, AllocError>
+    ensures { IfOk result (λ b. AddsOne b found.old.items found.new.items reference.now) }
+{
+    found.push(*reference)?;
+    Ok(false)
 }
 
 /// What the names of a module stand for: its binders, by their names, which of them are seen from where, and what they aim at.
@@ -118,7 +131,8 @@ impl Scope {
     pub fn start(&self, alloc: Global, name: NameId, here: Place) -> Result<Start, AllocError>
         ensures { IfOk result (λ s. IsStart s (split.seen_imports ids (scope_view self.now) name here)) }
     {
-        self.sight.start(alloc, name, here)
+        let _ = alloc;
+        Ok(self.sight.start(name, here))
     }
 
     // ---- what the binders of a name aim at
@@ -148,11 +162,12 @@ impl Scope {
         let group = self.sight.group(name);
         let aims = self.aims(name);
         let is_split = self.sight.is_split(name);
-        let mut i = self.sight.next(name, from, 0);
+        let unions = self.sight.unions(name, is_split);
+        let mut i = self.sight.next(unions, from, 0);
         'binders: while i < group.len() {
             let is_seen = self.sight.sees(from, placed(is_split, group[i].stands));
             keep_aim(found, &aims[i], is_seen)?;
-            i = self.sight.next(name, from, i + 1);
+            i = self.sight.next(unions, from, i + 1);
         }
         Ok(())
     }
@@ -184,8 +199,9 @@ impl Scope {
         add_asked(found, &aims)
     }
 
-    /// Adds what a name without a path asks for that is used at `here`, unless it stands for two things there.
-    fn add_split(
+    /// Adds what a name without a path asks for that is used at `here`, unless it stands for two things there: by each of its
+    /// binders that is seen.
+    fn add_each(
         &self,
         alloc: Global,
         found: &mut Vec<Reference<PathId, NameId>>,
@@ -208,13 +224,74 @@ impl Scope {
         Ok(false)
     }
 
+    /// Adds the declaration of a name that is used at `here`.
+    fn add_own(
+        &self,
+        found: &mut Vec<Reference<PathId, NameId>>,
+        name: NameId,
+        here: Place,
+    ) -> Result<bool, AllocError>
+        ensures { IfOk result (λ b. AddsOne b found.old.items found.new.items (split.under ids (scope_view self.now) name here (scope_view self.now).own)) }
+    {
+        let own = Reference {
+            path: self.sight.own,
+            name,
+            from: self.asked_at(self.sight.own, name, here),
+        };
+        add_reference(found, &own)
+    }
+
+    /// The same where all binders that are seen have one target, by the first of them.
+    fn add_one(
+        &self,
+        alloc: Global,
+        found: &mut Vec<Reference<PathId, NameId>>,
+        name: NameId,
+        here: Place,
+        first: &Binder<PathId, NameId>,
+    ) -> Result<bool, AllocError>
+        requires split { split.is_split ids (scope_view self.now).binders name ≡ true }
+        requires some { split.has_split ids (scope_view self.now).binders ≡ true }
+        requires one { IsStart (One first.now) (split.seen ids (scope_view self.now) name here) }
+        ensures { IfOk result (λ b. AddsUnless b (split.is_unclear_plain ids (scope_view self.now) name here) found.old.items found.new.items (split.asked_plain ids (scope_view self.now) name here)) }
+    {
+        let declaration = Sought::Published;
+        if self.sight.is_sought_seen(name, here, &declaration) {
+            return self.add_own(found, name, here);
+        }
+        if self.sight.is_own_split(first.path, first.item) {
+            return self.add_each(alloc, found, name, here);
+        }
+        let aim = aim_elsewhere(first);
+        add_reference(found, &aim.reference)
+    }
+
+    /// The same where the name has several targets.
+    fn add_split(
+        &self,
+        alloc: Global,
+        found: &mut Vec<Reference<PathId, NameId>>,
+        name: NameId,
+        here: Place,
+    ) -> Result<bool, AllocError>
+        requires split { split.is_split ids (scope_view self.now).binders name ≡ true }
+        requires some { split.has_split ids (scope_view self.now).binders ≡ true }
+        ensures { IfOk result (λ b. AddsUnless b (split.is_unclear_plain ids (scope_view self.now) name here) found.old.items found.new.items (split.asked_plain ids (scope_view self.now) name here)) }
+    {
+        match self.sight.lead(name, here, false) {
+            Start::Nothing => Ok(false),
+            Start::Several => Ok(true),
+            Start::One(first) => self.add_one(alloc, found, name, here, &first),
+        }
+    }
+
     /// What a name asks for, from wherever it is used, where it has one target.
     fn answer(&self, alloc: Global, name: NameId) -> Result<Answered, AllocError>
         requires { split.has_split ids (scope_view self.now).binders ≡ true }
         ensures { IfOk result (λ a. split.is_split ids (scope_view self.now).binders name ≡ false → IsAnswered (scope_view self.now) name a) }
     {
         let mut found = Vec::new(alloc);
-        let is_unclear = self.add_split(alloc, &mut found, name, Place::Always)?;
+        let is_unclear = self.add_each(alloc, &mut found, name, Place::Always)?;
         Ok(Answered {
             is_unclear,
             asked: first_of(&found),
@@ -269,11 +346,9 @@ impl Scope {
 
     /// What a name asks for, from wherever it is used, where it has one target.
     fn answer_of(&self, name: NameId) -> Option<Answered>
+        requires { split.is_split ids (scope_view self.now).binders name ≡ false }
         ensures { IfSome result (λ a. IsAnswered (scope_view self.now) name a) }
     {
-        if self.sight.is_split(name) {
-            return None;
-        }
         match self.sight.names.get_index_of(&name) {
             Some(index) => self.held_answer(index),
             None => None,
@@ -291,9 +366,12 @@ impl Scope {
         requires { split.has_split ids (scope_view self.now).binders ≡ true }
         ensures { IfOk result (λ b. AddsUnless b (split.is_unclear_plain ids (scope_view self.now) name here) found.old.items found.new.items (split.asked_plain ids (scope_view self.now) name here)) }
     {
+        if self.sight.is_split(name) {
+            return self.add_split(alloc, found, name, here);
+        }
         match self.answer_of(name) {
             Some(answer) => add_answer(found, &answer),
-            None => self.add_split(alloc, found, name, here),
+            None => self.add_each(alloc, found, name, here),
         }
     }
 

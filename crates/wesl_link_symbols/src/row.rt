@@ -236,7 +236,7 @@ impl Row {
     ///
     /// # Errors
     /// Want of memory.
-    pub(crate) fn of(
+    pub fn of(
         alloc: Global,
         alive: &Alive,
         imports: &[Import<PathId, NameId>],
@@ -259,7 +259,7 @@ impl Row {
     }
 
     /// The import at an index.
-    pub(crate) fn import_at(&self, index: usize) -> Import<PathId, NameId>
+    pub fn import_at(&self, index: usize) -> Import<PathId, NameId>
         requires { index < length self.now.imports.items }
         ensures { slice_get self.now.imports.items index ≡ Some result }
     {
@@ -267,7 +267,7 @@ impl Row {
     }
 
     /// Where the imports of a name stand.
-    pub(crate) fn extent(&self, name: NameId) -> Extent
+    pub fn extent(&self, name: NameId) -> Extent
         ensures within { result.end ≤ length self.now.imports.items }
         ensures all { HasExtent self.now.imports.items name result }
     {
@@ -278,7 +278,7 @@ impl Row {
     }
 
     /// The index behind the imports that follow on the one at this index and are like it.
-    pub(crate) fn end_of(&self, likeness: Likeness, index: usize) -> usize
+    pub fn end_of(&self, likeness: Likeness, index: usize) -> usize
         requires { index < length self.now.imports.items }
         ensures { IsRun likeness self.now.imports.items index result }
     {
@@ -289,7 +289,7 @@ impl Row {
     }
 
     /// The index of the first import, from one index on, that is not passed: none of those before it is seen from `from`.
-    pub(crate) fn next(&self, alive: &Alive, from: Place, index: usize) -> usize
+    pub fn next(&self, alive: &Alive, from: Place, index: usize) -> usize
         requires { IsCovered alive.now self.now }
         ensures ahead { index ≤ result }
         ensures unseen { Passes (IsUnseen alive.now from) self.now.imports.items index result }

@@ -21,7 +21,7 @@ pub binders-init : goal.binders-init
 binders-init c =
     let s = sight_view c.args.self.now in
     let bs : List (Binder PathId NameId) = c.group-group.result.now in
-    c.requires ∙ sym (passed_on s c.args.name c.args.from bs c.is_split-is_split.result c.group-group.ensures c.is_split-is_split.ensures (λ b. b) 0 c.next-i.result (omega arith) c.next-i.ensures.unseen)
+    c.requires ∙ sym (passed_on s c.args.name c.args.from bs c.is_split-is_split.result c.group-group.ensures c.is_split-is_split.ensures (λ b. b) 0 c.next-i.result (omega arith) (c.next-i.ensures.unseen c.args.name c.unions-unions.ensures))
 
 pub binders-preserved : goal.binders-preserved
 binders-preserved c =
@@ -35,7 +35,7 @@ binders-preserved c =
     c.in_ok-keep.ensures
     ∙ (ap₂ (λ (l : List (Binder PathId NameId)) y. l ++ one_if y b) c.binders.invariant is_seen
     ∙ (sym (flat_next (λ d. one_if (sees ids s c.args.from (if x then d.stands else Always)) d) bs i b at)
-    ∙ sym (passed_on s c.args.name c.args.from bs x c.group-group.ensures c.is_split-is_split.ensures (λ d. d) (i + 1) c.next-i-in-binders.result c.next-i-in-binders.ensures.ahead c.next-i-in-binders.ensures.unseen)))
+    ∙ sym (passed_on s c.args.name c.args.from bs x c.group-group.ensures c.is_split-is_split.ensures (λ d. d) (i + 1) c.next-i-in-binders.result c.next-i-in-binders.ensures.ahead (c.next-i-in-binders.ensures.unseen c.args.name c.unions-unions.ensures))))
 
 pub returns : goal.returns
 returns c =

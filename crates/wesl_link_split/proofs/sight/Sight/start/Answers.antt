@@ -4,6 +4,9 @@ use Rattle.wesl_link_split.specs.declared.binders.Facts.{Facts}
 use Rattle.wesl_link_split.proofs.Unsplit.{start_one, start_none}
 use Rattle.wesl_link_split.proofs.sight.Sight.start.Goals as goal
 
+pub lead-requires : goal.lead-requires
+lead-requires c = sym (ap (λ (f : Facts). f.is_split) c.facts-facts.ensures) ∙ c.if-facts.true
+
 pub returns-in-Some : goal.returns-in-Some
 returns-in-Some c =
     let one = sym (ap (λ (f : Facts). f.is_split) c.facts-facts.ensures) ∙ c.if-facts.false in

@@ -26,7 +26,7 @@ pub binders-init : goal.binders-init
 binders-init c =
     let s = scope_view c.args.self.now in
     let bs : List (Binder PathId NameId) = c.group-group.result.now in
-    c.requires.empty ∙ sym (passed_on s c.args.name c.args.from bs c.is_split-is_split.result c.group-group.ensures c.is_split-is_split.ensures (aim_in s) 0 c.next-i.result (omega arith) c.next-i.ensures.unseen)
+    c.requires.empty ∙ sym (passed_on s c.args.name c.args.from bs c.is_split-is_split.result c.group-group.ensures c.is_split-is_split.ensures (aim_in s) 0 c.next-i.result (omega arith) (c.next-i.ensures.unseen c.args.name c.unions-unions.ensures))
 
 pub binders-preserved : goal.binders-preserved
 binders-preserved c =
@@ -46,7 +46,7 @@ binders-preserved c =
     ∙ (ap₂ (λ (l : List Aim) y. l ++ one_if y a) c.binders.invariant is_seen
     ∙ (ap (λ y. flat_map (λ d. one_if (sees ids s c.args.from (if x then d.stands else Always)) (aim_in s d)) (take i bs) ++ one_if (sees ids s c.args.from (if x then b.stands else Always)) y) aim
     ∙ (sym (flat_next (λ d. one_if (sees ids s c.args.from (if x then d.stands else Always)) (aim_in s d)) bs i b at)
-    ∙ sym (passed_on s c.args.name c.args.from bs x c.group-group.ensures c.is_split-is_split.ensures (aim_in s) (i + 1) c.next-i-in-binders.result c.next-i-in-binders.ensures.ahead c.next-i-in-binders.ensures.unseen))))
+    ∙ sym (passed_on s c.args.name c.args.from bs x c.group-group.ensures c.is_split-is_split.ensures (aim_in s) (i + 1) c.next-i-in-binders.result c.next-i-in-binders.ensures.ahead (c.next-i-in-binders.ensures.unseen c.args.name c.unions-unions.ensures)))))
 
 pub returns : goal.returns
 returns c =

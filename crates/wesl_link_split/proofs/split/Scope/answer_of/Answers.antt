@@ -8,4 +8,4 @@ returns-in-Some c =
     let s = c.args.self.now in
     if_some c.held_answer.result (λ a e.
     s.answers_are c.in-Some.index c.args.name a (name_at c.args.name s.sight.names.keys c.in-Some.index (sym c.in-Some.ensures.index)) (sym c.held_answer.ensures ∙ e)
-    (sym c.is_split.ensures ∙ c.if-is_split.false))
+    c.requires)
