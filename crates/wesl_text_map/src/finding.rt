@@ -32,7 +32,7 @@ impl<'f, 't> Finder<'f, 't> {
             if token.start >= span.end {
                 return None;
             }
-            if is_name(token.token, spelling) && may_stand(tokens, index, standing) {
+            if is_name(token.token, spelling) && may_stand(tokens, index, span, standing) {
                 self.next = index + 1;
                 return Some(token.start);
             }
@@ -49,9 +49,14 @@ fn is_name(token: Token<'_>, spelling: &str) -> bool {
     }
 }
 
-// Whether the name at an index may stand so, by the tokens beside it: names of attributes and members, words of attributes and modules
-// of paths do not.
-fn may_stand(tokens: &[PlacedToken<'_>], index: usize, standing: &Standing<'_>) -> bool {
+// Whether the name at an index may stand so in a node, by the tokens beside it: names of attributes and members, words of attributes
+// and modules of paths do not.
+fn may_stand(
+    tokens: &[PlacedToken<'_>],
+    index: usize,
+    span: Span,
+    standing: &Standing<'_>,
+) -> bool {
     let before = match index.checked_sub(1) {
         Some(before) => tokens.get(before),
         None => None,
@@ -63,9 +68,17 @@ fn may_stand(tokens: &[PlacedToken<'_>], index: usize, standing: &Standing<'_>) 
         Standing::Reference(_) | Standing::Word => {
             !is_symbol(before, Symbol::At)
                 && !is_symbol(before, Symbol::Period)
-                && !is_symbol(after, Symbol::Colon)
+                && (!is_symbol(after, Symbol::Colon) || is_last(tokens, index, span))
                 && !is_symbol(after, Symbol::ColonColon)
         }
+    }
+}
+
+// Whether a node ends with the token at an index, as a selector does before its colon.
+fn is_last(tokens: &[PlacedToken<'_>], index: usize, span: Span) -> bool {
+    match tokens.get(index) {
+        Some(token) => token.end == span.end,
+        None => false,
     }
 }
 

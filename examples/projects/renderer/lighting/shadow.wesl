@@ -52,9 +52,12 @@ fn sun_visibility(world: vec3<f32>, depth: f32, n_dot_l: f32) -> f32 {
 }
 
 @if(DEBUG_CASCADES)
+const nearest_cascade = 0u;
+
+@if(DEBUG_CASCADES)
 fn tint(depth: f32) -> vec3<f32> {
     switch cascade_at(depth) {
-        case 0u: { return vec3<f32>(1.0, 0.6, 0.6); }
+        case nearest_cascade: { return vec3<f32>(1.0, 0.6, 0.6); }
         case 1u: { return vec3<f32>(0.6, 1.0, 0.6); }
         case 2u: { return vec3<f32>(0.6, 0.6, 1.0); }
         default: { return vec3<f32>(1.0, 1.0, 0.6); }
