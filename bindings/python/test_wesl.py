@@ -58,6 +58,11 @@ class Links(unittest.TestCase):
     def test_a_line_longer_than_the_first_buffer_is_whole(self):
         self.assertEqual(len(wesl.link(long_bundle("m" * 2000, 200)).map), 200)
 
+    def test_the_library_has_the_version_of_the_header(self):
+        header = (EXAMPLES.parent / "include/wesl.h").read_text(encoding="utf-8")
+        major, minor, patch = wesl.library_version()
+        self.assertIn(f"#define WESL_VERSION {major * 10000 + minor * 100 + patch}\n", header)
+
     def test_threads_link_at_one_time(self):
         bundle = json.dumps(long_bundle("m", 100)).encode()
         with concurrent.futures.ThreadPoolExecutor(4) as pool:

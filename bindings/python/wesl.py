@@ -13,6 +13,11 @@ _library = ctypes.CDLL(os.path.join(os.environ.get("WESL_LIB_DIR", ""), _NAME))
 _link = _library.wesl_link_bundle
 _link.restype = ctypes.c_uint32
 _link.argtypes = [ctypes.c_char_p, ctypes.c_size_t, ctypes.c_char_p, ctypes.c_size_t, ctypes.POINTER(ctypes.c_size_t)]
+_version = _library.wesl_version
+_version.restype = ctypes.c_uint32
+_version.argtypes = []
+# The longest line of this process.
+_longest = 0
 
 
 @dataclasses.dataclass(frozen=True)
@@ -33,15 +38,27 @@ class Fault(Exception):
         self.kind, self.arguments, self.module, self.span = kind, arguments, module, span
 
 
+def library_version():
+    """The version of the library: the three numbers of 0.1.0."""
+    version = _version()
+    return version // 10000, version // 100 % 100, version % 100
+
+
 def link_line(bundle):
-    """Links the bundle of these bytes: whether it is answered, and the bytes of the line."""
-    needed = ctypes.c_size_t(65536 + 2 * len(bundle))
+    """Links the bundle of these bytes: whether it is answered, and the bytes of the line.
+
+    Only a bundle whose line is longer than all before, and than 65,536 bytes more than the bundle has twice, is linked a second
+    time.
+    """
+    global _longest
+    room = max(65536 + 2 * len(bundle), _longest)
+    needed = ctypes.c_size_t()
     while True:
-        room = needed.value
         buffer = ctypes.create_string_buffer(room)
         status = _link(bundle, len(bundle), buffer, room, ctypes.byref(needed))
         if needed.value <= room:
-            return status == 0, buffer.raw[: needed.value]
+            return status == 0, buffer[: needed.value]
+        room = _longest = needed.value
 
 
 def link(bundle):

@@ -26,27 +26,14 @@ static uint8_t *read_whole(FILE *file, size_t *length) {
     return bytes;
 }
 
-/* The line of a bundle, which the caller frees; null where memory failed. */
-static uint8_t *line_of(const uint8_t *bundle, size_t length, uint32_t *status, size_t *needed) {
-    size_t room = 65536;
-    uint8_t *line = malloc(room);
-    while (line) {
-        *status = wesl_link_bundle(bundle, length, line, room, needed);
-        if (*needed <= room)
-            break;
-        free(line);
-        line = malloc(room = *needed);
-    }
-    return line;
-}
-
 int main(void) {
-    size_t length, needed;
-    uint32_t status;
+    size_t length;
+    struct wesl_buffer line = {0};
     uint8_t *bundle = read_whole(stdin, &length);
-    uint8_t *line = bundle ? line_of(bundle, length, &status, &needed) : NULL;
-    int failed = !line || fwrite(line, 1, needed, stdout) != needed || fflush(stdout) != 0;
+    uint32_t status = bundle ? wesl_link_grow(bundle, length, &line) : WESL_NO_ROOM;
+    if (status != WESL_NO_ROOM && (fwrite(line.bytes, 1, line.length, stdout) != line.length || fflush(stdout) != 0))
+        status = 2;
     free(bundle);
-    free(line);
-    return failed ? 2 : (int)status;
+    free(line.bytes);
+    return (int)status;
 }

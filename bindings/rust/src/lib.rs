@@ -23,7 +23,7 @@ mod library;
 
 pub use answer::{Answer, Item};
 pub use fault::{Fault, Kind};
-pub use library::{Line, link_line};
+pub use library::{Line, library_version, link_line};
 
 /// Links a bundle.
 ///

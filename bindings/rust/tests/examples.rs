@@ -1,5 +1,5 @@
 //! The examples of the repository, and what is told of them.
-use baqrizen::{Answer, Item, Kind, link, link_line};
+use baqrizen::{Answer, Item, Kind, library_version, link, link_line};
 use std::fs;
 use std::path::{Path, PathBuf};
 
@@ -91,6 +91,13 @@ fn a_line_longer_than_the_first_buffer_is_whole() {
     let answer = link(&bundle).unwrap();
     assert_eq!(answer.map.len(), 200);
     assert!(link_line(bundle.as_bytes()).text.len() > 65536 + 2 * bundle.len());
+}
+
+#[test]
+fn the_library_has_the_version_of_the_header() {
+    let header = fs::read_to_string(concat!(env!("CARGO_MANIFEST_DIR"), "/../../include/wesl.h")).unwrap();
+    let (major, minor, patch) = library_version();
+    assert!(header.contains(&format!("#define WESL_VERSION {}\n", major * 10000 + minor * 100 + patch)));
 }
 
 #[test]

@@ -1,10 +1,11 @@
 //! The linker as a C library: the bytes of a bundle in, its line out, in memory of the caller. `include/wesl.h` declares
-//! the call for C.
+//! the calls for C.
 #![tactic(auto)]
 
 ghost use Rattle.std.specs.Prelude.{◌≡◌, Ok};
 ghost use Rattle.wesl.specs.Run.{status_of};
 ghost use Rattle.wesl_c.specs.Answers.{FillsBuffer, written_over};
+ghost use Rattle.wesl_c.specs.Version.{version_of};
 
 use std::alloc::Global;
 use wesl::{Outcome, line_of_bytes};
@@ -31,6 +32,14 @@ pub extern "C" fn wesl_link_bundle(
     write_over(buffer, bytes);
     *needed = bytes.len();
     status(outcome)
+}
+
+/// The number of the library's version.
+#[unsafe(no_mangle)]
+pub extern "C" fn wesl_version() -> u32
+    ensures version { result ≡ version_of 0 1 0 }
+{
+    100
 }
 
 // Writes the bytes over the beginning of the buffer, as far as there is room.
