@@ -127,6 +127,7 @@ def on_way(place, count=12):
 
 
 EITHER = [when("F0"), "else"]
+NEVER = when(both("F0", is_not("F0")))
 IS_KEPT = {"features": {"default": "keep"}}
 
 
@@ -423,7 +424,57 @@ def split_names():
         ),
         items("package::a", ["f0", "f1"]),
     ))
+    yield from split_seen()
+    yield from split_own()
     yield from split_from_outside()
+
+
+def split_seen():
+    """Uses that see many binders of their name, where a binder with another target is seen by none of them."""
+    seen = lambda place: when(both("G", way(place)))
+    imports = lambda count, path, item: [
+        *(one(path, item, "f", seen(place)) for place in range(count)), one("package::b", item, "f", when(is_not("G")))
+    ]
+    apart = lambda imports_of, used: lambda count: bundle(
+        module(
+            "package::main",
+            imports=imports_of(count),
+            declarations=[const("k", used, attrs=[when("G")]) for _ in range(count)],
+        ),
+        items("package::a", ["f"]), items("package::b", ["f"]), items("package::f", ["x"]),
+    )
+    yield Shape("binders of a split name that its uses see", 250, apart(lambda count: imports(count, "package::a", "f"), "f"))
+    yield Shape("binders of a split name that paths begin with", 250, apart(
+        lambda count: imports(count, "package", "f"), at("f", "x")
+    ))
+
+
+def split_own():
+    """Imports of a name of their own module that has several targets."""
+    through = lambda name, target, imports_of_g: lambda count: bundle(
+        module(
+            "package::main",
+            imports=[
+                *imports_of_g(count),
+                one("package::a", "f0", "h", NEVER),
+                *(one("package::main", target(place), name(place), on_way(place)) for place in range(count)),
+            ],
+            declarations=[const("k", name(place), attrs=[on_way(place)]) for place in range(count)],
+        ),
+        items("package::a", number("f", count)),
+    )
+    same = lambda name: lambda place: name
+    of_two = lambda count: [one("package::a", f"f{place % 2}", "g", on_way(place)) for place in range(count)]
+    of_many = lambda count: [one("package::a", f"f{place}", "g", on_way(place)) for place in range(count)]
+    onward = lambda count: [
+        one("package::a", "f0", "g", NEVER),
+        *(one("package::main", "e", "g", on_way(place)) for place in range(count)),
+        *(one("package::a", f"f{place}", "e", attribute) for place, attribute in enumerate(EITHER)),
+    ]
+    yield Shape("imports of one name of a split name of their own module", 250, through(same("h"), same("g"), of_two))
+    yield Shape("imports of one name, each with another target, of a split name of their own module", 250, through(same("h"), same("g"), of_many))
+    yield Shape("imports that a split name of their own module leads on", 250, through(lambda place: f"h{place}", same("g"), onward))
+    yield Shape("imports of one name that a split name of their own module leads on", 250, through(same("h"), same("g"), onward))
 
 
 def split_from_outside():
@@ -434,8 +485,7 @@ def split_from_outside():
     yield Shape("references from outside to a name with binders of one target, beside a split name", 250, lambda count: main_of_uses(
         names(count), given([*ways("f0", count), *beside])
     ))
-    never = when(both("F0", is_not("F0")))
-    dead = lambda count: [one("package::a", "g0", "f", "publish", never) for place in range(count)]
+    dead = lambda count: [one("package::a", "g0", "f", "publish", NEVER) for place in range(count)]
     yield Shape("references from outside past binders that no choice keeps", 250, lambda count: main_of_uses(
         names(count), given([*dead(count), one("package::a", "f0", "f", "publish"), *beside])
     ))
@@ -443,7 +493,7 @@ def split_from_outside():
         names(count),
         [
             module("package::m", imports=[
-                *(one("package::a", f"g{place}", "f", "publish", never) for place in range(count)),
+                *(one("package::a", f"g{place}", "f", "publish", NEVER) for place in range(count)),
                 one("package::a", "f0", "f", "publish"),
                 *beside,
             ]),
