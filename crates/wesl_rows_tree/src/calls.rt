@@ -52,6 +52,7 @@ fn of_scopes(row: Row<'_>, call: &str) -> Value {
         "names_clash of many statements" => scopes::many_clash(row),
         "names_clash, times" => scopes::clash_times(row),
         "clashes" => scopes::clashes_told(row),
+        "word_clashes" => scopes::word_clashes_told(row),
         "identifier_spans" => scopes::spans_told(row),
         "free_names" => validators::free(row),
         "free_uses" => validators::free_told(row),

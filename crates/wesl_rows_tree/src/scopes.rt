@@ -7,6 +7,7 @@ use wesl_scope::{
     Binder, Clash, Reading, SyntaxUtil, clashes, identifier_spans, names_clash, strip_except,
 };
 use wesl_scope_occurrences::{Identifiers, Standing, occurrences};
+use wesl_scope_words::{WordClash, word_clashes};
 use wesl_tree::{Ident, Span, TranslationUnit};
 
 /// The identifiers of a unit, or none.
@@ -211,6 +212,34 @@ pub fn clashes_told(row: Row<'_>) -> Value {
     let mut answer = List::new(row.alloc);
     for clash in found.as_slice() {
         answer.put(clash_value(row, clash));
+    }
+    answer.end(row)
+}
+
+/// What is told of a word of a variable that a declared name captures.
+fn word_clash_value(row: Row<'_>, clash: &WordClash<'_>) -> Value {
+    let (binder, variable) = (clash.binder, clash.variable);
+    let mut answer = Object::new(row.alloc);
+    answer.put(
+        "binder",
+        numbers_value(row, &[binder.ident.0, binder.place]),
+    );
+    answer.text("name", clash.name);
+    answer.put(
+        "variable",
+        numbers_value(row, &[variable.ident.0, variable.place]),
+    );
+    answer.text("word", clash.word);
+    answer.end(row)
+}
+
+/// Which words of variables are captured in the `tree` with its `names`.
+pub fn word_clashes_told(row: Row<'_>) -> Value {
+    let unit = named(row);
+    let found = row.or(word_clashes(row.alloc, &unit), Vec::new(row.alloc));
+    let mut answer = List::new(row.alloc);
+    for clash in found.as_slice() {
+        answer.put(word_clash_value(row, clash));
     }
     answer.end(row)
 }
