@@ -1,6 +1,6 @@
 """The shapes of so many parts by which `bench/hostile --growth` looks how work and memory grow.
 
-`linked()` are bundles for `wesl-link`, `explained()` such for `wesl-explain`. Of each shape there is its name, how many parts it
+`LINKED` has the families of bundles for `wesl-link`, `EXPLAINED` those for `wesl-explain`. Of each shape there is its name, how many parts it
 has at first, a call that makes the bundle of so many parts, whether the bundle is refused, and how many bytes of memory it may
 take for each of its bytes.
 """
@@ -753,10 +753,18 @@ def with_spans():
     ), True)
 
 
-def linked():
-    """The shapes for `wesl-link`."""
-    for group in (look_ups, kept_names, packages, long_paths, split_names, conditions, validated, scopes, with_spans):
-        yield from group()
+# The families of shapes for `wesl-link`.
+LINKED = {
+    "look-ups": look_ups,
+    "kept names": kept_names,
+    "packages": packages,
+    "long paths": long_paths,
+    "split names": split_names,
+    "conditions": conditions,
+    "validation": validated,
+    "scopes": scopes,
+    "places": with_spans,
+}
 
 
 # What `wesl-explain` is asked.
@@ -1032,7 +1040,13 @@ def refused_binders():
     ), True)
 
 
-def explained():
-    """The shapes for `wesl-explain`."""
-    for group in (reasons, unused_imports, free_and_clashing, refused_names, refused_ways, refused_modules, refused_binders):
-        yield from group()
+# Those for `wesl-explain`.
+EXPLAINED = {
+    "reasons": reasons,
+    "imports that nothing uses": unused_imports,
+    "free and clashing names": free_and_clashing,
+    "missing names": refused_names,
+    "refused chains": refused_ways,
+    "refused modules": refused_modules,
+    "binders in the way": refused_binders,
+}
