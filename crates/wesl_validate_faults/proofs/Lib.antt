@@ -1,9 +1,13 @@
+pub mod Again
 pub mod Closing
 pub mod Collecting
 pub mod Equality
 pub mod Fitting
 pub mod Listing
+pub mod Natural
+pub mod Placing
 pub mod Repeated
+pub mod Ringed
 pub mod Rings
 pub mod Standing
 pub mod Telling

@@ -1,19 +1,24 @@
 -- Laws of the definitions, as functions of the crate cite them.
-use Rattle.std.specs.Prelude.{◌≡◌, ◌≢◌, ℕ, List, map}
+use Rattle.std.specs.Prelude.{◌≡◌, ◌≢◌, true, ℕ, ◌<◌, length, get_or, List, map}
 use Rattle.std.specs.List.{Contains, AllPairs}
 use Rattle.wesl_tree_names.specs.Path.{Text}
 use Rattle.wesl_tree_names.specs.declared.errors.Diagnostic.{Diagnostic}
-use Rattle.wesl_tree_syntax.specs.Unit.{UnitView}
+use Rattle.wesl_scope_numbers.specs.Leaves.{are_leaves}
+use Rattle.wesl_tree_syntax.specs.Unit.{UnitView, forest_of_unit, numbers, trees_of}
 use Rattle.wesl_validate_builtins.specs.Builtins.{BuiltinNames}
 use Rattle.wesl_validate_rules.specs.Faults.{RefusesWesl, RefusesWgsl}
 use Rattle.wesl_validate_rules.specs.Calls.{CallOf}
-use Rattle.wesl_validate_rules.specs.Valid.{calls_of, AliasesTo, IsEnd, Fits}
+use Rattle.wesl_validate_rules.specs.Valid.{spelling, calls_of, AliasesTo, IsEnd, Fits}
 use Rattle.wesl_validate_calls.specs.Misfits.{Misses}
 use Rattle.wesl_validate_calls.specs.Verdicts.{IsFirstEnd}
 use Rattle.wesl_validate_calls.specs.declared.misfit.Misfit.{Misfit}
 use Rattle.wesl_validate_faults.specs.Calls.{misfit_told, AreFindingsWgsl}
 use Rattle.wesl_validate_faults.specs.Findings.{Finding, cycle, IsFound, IsFoundWgsl}
-use Rattle.wesl_validate_faults.specs.Listed.{AreFindings, undefineds}
+use Rattle.wesl_validate_faults.specs.Listed.{AreCycles, AreFindings, duplicates, module_numbers, undefineds}
+use Rattle.wesl_validate_faults.specs.Members as members
+use Rattle.wesl_validate_faults.specs.Repeated as repeated
+use Rattle.wesl_validate_faults.specs.Repeated.{Repeated}
+use Rattle.wesl_validate_faults.specs.Members.{Member, AreMembers}
 use Rattle.wesl_validate_faults.specs.Telling.{TellsFinding}
 use Rattle.wesl_validate_faults.specs.Uses.{finding_at, undefined_uses}
 use Rattle.wesl_validate_free.specs.Uses.{free_uses, use_at}
@@ -84,3 +89,31 @@ UsesAreFindings = (u : UnitView) (b : BuiltinNames) → map finding_at (undefine
 -- they are the uses of names that are left free, at the same places
 abbrev pub UsesAreFree : Type 0
 UsesAreFree = (u : UnitView) (b : BuiltinNames) → map (λ x. use_at x.place x.name) (undefined_uses u b) ≡ free_uses u b
+
+-- an identifier of the module stands at the place, and it has the name
+abbrev pub IsNamedAt : UnitView → ℕ → Text → Type 0
+IsNamedAt u p n = (p < length (numbers u)) × (spelling u (get_or (numbers u) p 0) ≡ n)
+
+-- ---- each member of a ring
+
+-- the members of rings, one by one, are the rings that are found, before each is told once
+abbrev pub MembersAreFindings : Type 0
+MembersAreFindings = (u : UnitView) (ms : List Member) → AreMembers u ms → AreCycles u (module_numbers u) (map members.finding_at ms)
+
+-- a module has no two lists of them
+abbrev pub MembersAreOneList : Type 0
+MembersAreOneList = (u : UnitView) (ms ns : List Member) → AreMembers u ms → AreMembers u ns → ms ≡ ns
+
+-- the names stand at their places
+abbrev pub MembersStandThere : Type 0
+MembersStandThere = (u : UnitView) (ms : List Member) → AreMembers u ms → (m : Member) → Contains ms m → IsNamedAt u m.place m.name × IsNamedAt u m.last m.via
+
+-- ---- each name that is declared again
+
+-- an identifier has nothing below it, as in the trees of all nodes
+abbrev pub HasLeaves : UnitView → Type 0
+HasLeaves u = are_leaves (forest_of_unit (trees_of u)) ≡ true
+
+-- the names that are declared again, one by one, are the duplicates that are found, before each is told once
+abbrev pub RepeatedAreFindings : Type 0
+RepeatedAreFindings = (u : UnitView) → HasLeaves u → map repeated.finding_at (repeated.repeated u) ≡ duplicates u

@@ -3,5 +3,8 @@ pub mod Findings
 pub mod Gathered
 pub mod Laws
 pub mod Listed
+pub mod Members
+pub mod Placed
+pub mod Repeated
 pub mod Telling
 pub mod Uses
