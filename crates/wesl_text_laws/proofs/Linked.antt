@@ -1,16 +1,19 @@
 -- A linked unit of writable modules is writable.
-use Rattle.std.proofs.Common.{◌≡◌, ◌↔◌, true, List, [], ◌∷◌, Some, None, map, Contains, refl, ap, ◌∙◌, subst}
+use Rattle.std.proofs.Common.{◌≡◌, ◌↔◌, ◌⊎◌, true, List, [], ◌∷◌, Some, None, map, Contains, refl, sym as turned, inl, inr, ap, ◌∙◌, subst}
 use Rattle.wesl_tree_names.specs.Path.{Text, Path}
 use Rattle.wesl_tree_syntax.specs.Tree.{TreeOf, trees}
 use Rattle.wesl_tree_syntax.specs.Unit.{UnitOf, UnitView, forest_of_unit, trees_of as numbered, name_in, spelled}
 use Rattle.wesl_text_form.specs.Spelling.{Slots, slots, unit_row}
-use Rattle.wesl_text_form.specs.Says.{IsWritable}
+use Rattle.wesl_text_form.specs.Says.{TextSays, IsWritable}
 use Rattle.wesl_text_reading.proofs.Filled.{no_true}
 use Rattle.wesl_text_writable.proofs.Writable.{said_are_writable}
 use Rattle.wesl_text_respell.specs.Joined.{IsPartOf}
 use Rattle.wesl_text_respell.specs.Respelled.{IsRespelled}
 use Rattle.wesl_text_respell.proofs.Writable.{are_writable, respelled_units}
 use Rattle.wesl_text_respell.proofs.Units.{joined_units}
+use Rattle.wesl_cond_unit.specs.Left.{left_of}
+use Rattle.wesl_text_judged.specs.Within.{all_end_within}
+use Rattle.wesl_text_judged.proofs.Units.{left_views}
 use Rattle.wesl_link_reach.specs.World.{Task}
 use Rattle.wesl_link_reach.proofs.Lists.{contains_map}
 use Rattle.wesl_link_assembly.specs.Denotations.{printed_as}
@@ -18,8 +21,8 @@ use Rattle.wesl_link_assembly.specs.Linked.{shape}
 use Rattle.wesl_link_assembly.specs.Pathless.{without_paths}
 use Rattle.wesl_link_engine.specs.Worlds.{Module, tables, task_of}
 use Rattle.wesl_link_engine.specs.Linked.{Placed, unit_of, IsAssembled}
-use Rattle.wesl_link_engine.specs.Resolved.{IsAssembledOf}
-use Rattle.wesl_text_laws.specs.Laws.{are_named, AreWritable, AreSaid, HasNames, LinkedAreWritable, LinkedTexts}
+use Rattle.wesl_link_engine.specs.Resolved.{Resolved, IsAssembledOf, AssemblesTo}
+use Rattle.wesl_text_laws.specs.Laws.{are_named, AreWritable, IsJudged, HasNames, LinkedAreWritable, LinkedTexts, LinkedJudged}
 use Rattle.wesl_text_laws.proofs.Good.{Good, is_good, rows_are_good}
 use Rattle.wesl_text_laws.proofs.Needed.{rows_are_named}
 use Rattle.wesl_text_laws.proofs.Shaped.{respelled_by_shape, spelled_unplaced, spelled_shape}
@@ -72,8 +75,25 @@ pub linked_are_writable : LinkedAreWritable
 linked_are_writable w task names unit writable a =
     (names_needed (spelled unit), λ h. respelled_units (source w task names unit writable a) (spelled unit) (unit_respelled w task names unit writable a h) (source_writable w task names unit writable a))
 
-pub linked_texts : LinkedTexts
-linked_texts r unit said a = by r.modules said a where
-  by : (w : List Module) → AreSaid w → IsAssembledOf r w unit → (IsWritable (spelled unit) ≡ true) ↔ HasNames unit
+-- so of the modules of a `Resolutions`
+linked_of : (r : Resolved) (unit : UnitView) → AreWritable r.modules → AssemblesTo r unit → (IsWritable (spelled unit) ≡ true) ↔ HasNames unit
+linked_of r unit writable a = by r.modules writable a where
+  by : (w : List Module) → AreWritable w → IsAssembledOf r w unit → (IsWritable (spelled unit) ≡ true) ↔ HasNames unit
   by [] s e = (names_needed (spelled unit), λ h. ap (λ z. IsWritable (spelled z)) e)
-  by (root ∷ others) s e = linked_are_writable (root ∷ others) (task_of root r.kept r.is_eager) r.names unit (λ m c. said_are_writable (s m c).0 m.unit (s m c).1) e
+  by (root ∷ others) s e = linked_are_writable (root ∷ others) (task_of root r.kept r.is_eager) r.names unit s e
+
+pub linked_texts : LinkedTexts
+linked_texts r unit said a = linked_of r unit (λ m c. said_are_writable (said m c).0 m.unit (said m c).1) a
+
+-- ---- modules whose conditions were judged
+
+judged_writable : (u : UnitOf Text) → IsJudged u → IsWritable u ≡ true
+judged_writable u x =
+    let apart : all_end_within (forest_of_unit (spelled (left_of x.reply x.read))) ≡ true = turned (ap (λ z. all_end_within (forest_of_unit z)) x.left) ∙ x.apart in
+    ap (λ z. IsWritable z) x.left ∙ (left_views x.reply x.read (said_are_writable x.text (spelled x.read) x.said) x.faultless).1 apart
+
+pub linked_judged : LinkedJudged
+linked_judged r unit judged a = linked_of r unit (λ m c. by m.unit (judged m c)) a where
+  by : (u : UnitOf Text) → ((t : Text) × TextSays t u) ⊎ IsJudged u → IsWritable u ≡ true
+  by u (inl x) = said_are_writable x.0 u x.1
+  by u (inr x) = judged_writable u x

@@ -1,12 +1,16 @@
 -- What is promised of the text of linked units.
-use Rattle.std.specs.Prelude.{◌≡◌, ◌↔◌, ℕ, ◌-◌, ◌==◌, Bool, true, ◌&&◌, ◌||◌, List, Contains}
+use Rattle.std.specs.Prelude.{◌≡◌, ◌↔◌, ◌⊎◌, ℕ, ◌-◌, ◌==◌, Bool, true, ◌&&◌, ◌||◌, List, Contains}
 use Rattle.wesl_tree_names.specs.Path.{Text, Path}
 use Rattle.wesl_tree_syntax.specs.Tree.{ident, assignment, end, tree}
-use Rattle.wesl_tree_syntax.specs.Unit.{UnitView, forest_of_unit, spelled}
+use Rattle.wesl_tree_syntax.specs.Unit.{UnitOf, UnitView, forest_of_unit, spelled, trees_of}
 use Rattle.wesl_tree_syntax.specs.declared.statement.AssignmentOperator.TheVariants as assignment_operator
 use Rattle.wesl_text_form.specs.Names.{is_name}
 use Rattle.wesl_text_form.specs.Spelling.{Label, Forest, is_wildcard}
 use Rattle.wesl_text_form.specs.Says.{TextSays, IsWritable}
+use Rattle.wesl_cond_features.specs.Features.{Replies, by_number}
+use Rattle.wesl_cond_chains.specs.Laws.{IsFaultless}
+use Rattle.wesl_cond_unit.specs.Left.{left_of}
+use Rattle.wesl_text_judged.specs.Within.{all_end_within}
 use Rattle.wesl_link_reach.specs.World.{Task}
 use Rattle.wesl_link_engine.specs.Worlds.{Module}
 use Rattle.wesl_link_engine.specs.Linked.{IsAssembled}
@@ -19,6 +23,21 @@ AreWritable w = (m : Module) → Contains w m → IsWritable m.unit ≡ true
 -- the unit of each module is said by a text
 abbrev pub AreSaid : List Module → Type 0
 AreSaid w = (m : Module) → Contains w m → (t : Text) × TextSays t m.unit
+
+-- What features left of a unit that a text says, and in which no fault of a condition stands: of its statements that assign, at any
+-- depth, each has attributes that end before its target. It is what `condition` leaves.
+pub record IsJudged (unit : UnitOf Text) : Type 0 where
+  pub text : Text
+  pub read : UnitView
+  pub reply : Replies Text
+  pub said : TextSays text (spelled read)
+  pub faultless : IsFaultless (by_number read.names reply) (trees_of read)
+  pub left : unit ≡ spelled (left_of reply read)
+  pub apart : all_end_within (forest_of_unit unit) ≡ true
+
+-- the unit of each module is said by a text, or left of one that is
+abbrev pub AreSaidOrJudged : List Module → Type 0
+AreSaidOrJudged w = (m : Module) → Contains w m → ((t : Text) × TextSays t m.unit) ⊎ IsJudged m.unit
 
 -- a label that is an identifier is a name
 abbrev pub has_name : Label → Bool
@@ -50,3 +69,7 @@ LinkedAreWritable =
 -- text in, text out: so is the unit of a `Resolutions` whose modules were said by texts
 abbrev pub LinkedTexts : Type 0
 LinkedTexts = (r : Resolved) (unit : UnitView) → AreSaid r.modules → AssemblesTo r unit → (IsWritable (spelled unit) ≡ true) ↔ HasNames unit
+
+-- and so where the conditions of the modules were judged
+abbrev pub LinkedJudged : Type 0
+LinkedJudged = (r : Resolved) (unit : UnitView) → AreSaidOrJudged r.modules → AssemblesTo r unit → (IsWritable (spelled unit) ≡ true) ↔ HasNames unit

@@ -36,13 +36,13 @@ strip : (b : Bool) (a : Slots) → are_hard b (followed a (Some [])) ≡ true �
 strip b None h = refl
 strip b (Some ss) h = turned (ap (is_hard_before b) (append-nil ss)) ∙ h
 
-node_hard : (s : Sort) (l : Label) (c : Forest) → are_hard false (first_slots l c (spells c) s) ≡ true
+pub node_hard : (s : Sort) (l : Label) (c : Forest) → are_hard false (first_slots l c (spells c) s) ≡ true
 node_hard s l c = strip false (first_slots l c (spells c) s) (rows_are_hard (tree l c end) (own s nothing) false refl)
 
-list_hard : (f : Forest) → are_hard true ((spells f).all an_attribute) ≡ true
+pub list_hard : (f : Forest) → are_hard true ((spells f).all an_attribute) ≡ true
 list_hard f = strip true ((spells f).all an_attribute) (rows_are_hard (tree (kind attributes) f end) (run attributes an_attribute nothing) true refl)
 
-attribute_keeps : (l : Label) (c : Forest) → Keep (first_slots l c (spells c) an_attribute)
+pub attribute_keeps : (l : Label) (c : Forest) → Keep (first_slots l c (spells c) an_attribute)
 attribute_keeps l c = keep_comes (first_slots l c (spells c) an_attribute) (attribute_comes l c)
 
 -- ---- which rows
@@ -200,14 +200,14 @@ headed_plain l h = let x : (not (is_attributes l) ≡ true) × (not (is_list l) 
 
 module _ (reply : Replies Text) (role : Role) where
   -- what is left of attributes
-  abbrev left : Forest → Forest
+  abbrev pub left : Forest → Forest
   left = recast (known reply) role
 
   -- of the children of a node
-  abbrev children_left : Label → Forest → Forest
+  abbrev pub children_left : Label → Forest → Forest
   children_left l c = cond (is_attributes l) (left c) (cond (is_list l) c (with_attributes left c))
 
-  abbrev IsClear : Forest → Type 0
+  abbrev pub IsClear : Forest → Type 0
   IsClear f = flat_map (condition_faults reply) (conditions f) ≡ []
 
   marks : (f : Forest) → IsClear f → Follows ((spells f).all an_attribute) ((spells (left f)).all an_attribute)
@@ -328,7 +328,7 @@ module _ (reply : Replies Text) (role : Role) where
   statement_node_follows (kind k) c e a = tt
   statement_node_follows l c e a = tt
 
-  nodes_follow : (s : Sort) (l : Label) (c : Forest) → is_of_list s ≡ true → IsClear (attributes_in (tree l c end)) → ends_before_target l (children_left l c) ≡ true
+  pub nodes_follow : (s : Sort) (l : Label) (c : Forest) → is_of_list s ≡ true → IsClear (attributes_in (tree l c end)) → ends_before_target l (children_left l c) ≡ true
       → Follows (first_slots l c (spells c) s) (first_slots l (children_left l c) (spells (children_left l c)) s)
   nodes_follow s l c i e a = by (listed s i) where
     listed : (s : Sort) → is_of_list s ≡ true → (s ≡ a_statement) ⊎ (is_first s ≡ true)
@@ -372,7 +372,7 @@ far_end s b = refl
 none_there : (s : Sort) (l : Label) (c : Forest) → row_of s l ≡ None → is_some (first_slots l c (spells c) s) ≡ true → ⊥
 none_there s l c e h = no_true (turned (ap (λ o. is_some (option_and_then (λ r. if fits l c && stands_as s l c then (spells c).row r else None) o)) e) ∙ h)
 
-ends_there : (s : Sort) (l : Label) (c : Forest) → is_some (first_slots l c (spells c) s) ≡ true → ends_before_target l c ≡ true
+pub ends_there : (s : Sort) (l : Label) (c : Forest) → is_some (first_slots l c (spells c) s) ≡ true → ends_before_target l c ≡ true
 ends_there s (at statement_node a b) end h = refl
 ends_there s (at statement_node zero zero) (tree m c o) h = statement_apart s m c o h
 ends_there s (at statement_node zero (suc b)) (tree m c o) h = absurd (none_there s (at statement_node zero (suc b)) (tree m c o) (far_end s b) h)

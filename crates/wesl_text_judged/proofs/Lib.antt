@@ -1,0 +1,11 @@
+pub mod There
+pub mod Flagged
+pub mod Resting
+pub mod Relation
+pub mod Walks
+pub mod Rows
+pub mod Lists
+pub mod Bodies
+pub mod Follow
+pub mod Through
+pub mod Units
