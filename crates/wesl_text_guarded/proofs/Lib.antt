@@ -1,0 +1,3 @@
+pub mod Respelled
+pub mod Steps
+pub mod WorkedRows
