@@ -9,6 +9,7 @@ use wesl_explain_world::{
     Asker, Chain, Explanation, Fault, FaultCure, FaultLine, Flaw, LinkFault, NameId, PathId,
     Symbol, Target, Use,
 };
+use wesl_tree_base::Span;
 
 /// Writes a text or a number of a line.
 fn write_scalar(out: &mut Writer, value: &Value) -> Result<(), AllocError> {
@@ -77,9 +78,9 @@ fn module_of(asker: Asker<PathId, NameId>) -> Option<PathId> {
     }
 }
 
-/// Writes where the declaration that asks stands.
-fn write_span(out: &mut Writer, asked: &Use) -> Result<(), AllocError> {
-    match asked.span {
+/// Writes where something stands, if it is known.
+fn write_span(out: &mut Writer, span: Option<Span>) -> Result<(), AllocError> {
+    match span {
         Some(span) => {
             out.key("span")?;
             out.begin_array()?;
@@ -99,7 +100,7 @@ fn write_place(out: &mut Writer, told: &Explanation, asked: &Use) -> Result<(), 
     if let Some(name) = asked.name {
         write_text(out, "name", told.name(name))?;
     }
-    write_span(out, asked)
+    write_span(out, asked.span)
 }
 
 /// Writes an asker with its chain.
@@ -207,6 +208,7 @@ fn write_target(out: &mut Writer, told: &Explanation, target: &Target) -> Result
     }
     write_text(out, "module", told.path(target.symbol.path))?;
     write_text(out, "name", told.name(target.symbol.name))?;
+    write_span(out, target.span)?;
     out.end_object()
 }
 

@@ -1,4 +1,4 @@
-//! The program `wesl-explain`: a bundle in, and why its link is as it is, told to a person or as JSON.
+//! The program `wesl-explain`: a bundle in, and why its link is as it is, told to a person, as JSON or as a graph.
 #![tactic(auto)]
 
 mod as_json;
@@ -49,7 +49,7 @@ fn main(rt: HostRuntime) -> ExitCode {
         let _ = eprintln!(rt; "wesl-explain: the bundle {name} cannot be read");
         return ExitCode::from(2);
     };
-    let told = match told_of(alloc, &bytes, wish.is_json, wish.shown) {
+    let told = match told_of(alloc, &bytes, wish.form) {
         Ok(told) => told,
         Err(_) => {
             let _ = eprintln!(rt; "wesl-explain: out of memory");

@@ -8,6 +8,7 @@ use crate::as_json::json_of;
 use std::alloc::{AllocError, Global};
 use std::io::{Read, Write};
 use std::process::ExitCode;
+use wesl_explain_graph::{Graph, graph_of};
 use wesl_explain_text::{Places, Shown, text_of};
 use wesl_explain_world::{Explanation, explained};
 use wesl_program::{NotedStream, read_whole, write_whole};
@@ -48,38 +49,41 @@ pub struct Told {
     text: String,
 }
 
-/// What is told of the bundle that the bytes are, as JSON, or what is asked for of it as text.
-pub fn told_of(
-    alloc: Global,
-    bytes: &[u8],
-    is_json: bool,
-    shown: Shown<'_>,
-) -> Result<Told, AllocError>
+/// How a bundle is told of.
+#[derive(Clone, Copy)]
+pub enum Form<'a> {
+    /// As text, all of it or a part.
+    Text(Shown<'a>),
+    /// As JSON.
+    Json,
+    /// As a graph for Graphviz.
+    Drawn(Graph),
+}
+
+/// What is told in this form of the bundle that the bytes are.
+pub fn told_of(alloc: Global, bytes: &[u8], form: Form<'_>) -> Result<Told, AllocError>
     ensures { IfOk result (IsToldOf bytes.now) }
 {
     let explanation = explained(alloc, bytes)?;
-    let text = form_of(alloc, &explanation, is_json, shown)?;
+    let text = form_of(alloc, &explanation, form)?;
     Ok(Told {
         is_linked: explanation.faults.is_empty(),
         text,
     })
 }
 
-fn form_of(
-    alloc: Global,
-    told: &Explanation,
-    is_json: bool,
-    shown: Shown<'_>,
-) -> Result<String, AllocError> {
-    if is_json {
-        json_of(alloc, told)
-    } else {
-        let places = Places {
-            files: &[],
-            held: &[],
-            unused: &[],
-        };
-        text_of(alloc, told, shown, places)
+fn form_of(alloc: Global, told: &Explanation, form: Form<'_>) -> Result<String, AllocError> {
+    match form {
+        Form::Json => json_of(alloc, told),
+        Form::Drawn(graph) => graph_of(alloc, told, graph),
+        Form::Text(shown) => {
+            let places = Places {
+                files: &[],
+                held: &[],
+                unused: &[],
+            };
+            text_of(alloc, told, shown, places)
+        }
     }
 }
 

@@ -1,8 +1,8 @@
 //! The conditions of imports and declarations, as they are written.
 
-use crate::modules::ReadModule;
 use std::alloc::{AllocError, Global};
 use wesl_cond_choices::place::Place;
+use wesl_explain_places::ReadModule;
 use wesl_link_tables::numbers::spelling;
 use wesl_tree::{
     Attribute, AttributeNode, BinaryOperator, Expression, ExpressionNode, GlobalDeclaration,

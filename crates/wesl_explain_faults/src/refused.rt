@@ -7,7 +7,6 @@ ghost use Rattle.wesl_explain_faults.specs.Told.{AreTold, fault_view, link_view}
 use crate::cures::{FaultCure, cures_of};
 use crate::faults::{FaultAt, Wrong, faults_at};
 use crate::held::{HeldNodes, held_nodes};
-use crate::modules::ReadModules;
 use crate::names::near_missing;
 use crate::near::NearNames;
 use crate::targets::{Target, targets_of};
@@ -16,6 +15,7 @@ use crate::uses::{Use, look_up_of, uses_of};
 use crate::way::{question, way_of};
 use std::alloc::{AllocError, Global};
 use std::collections::HashMap;
+use wesl_explain_places::ReadModules;
 use wesl_link_faults::asker::Asker;
 use wesl_link_faults::given::{Given, place_all};
 use wesl_link_faults::open::Finding;

@@ -1,12 +1,12 @@
 //! What a name of a module may stand for.
 
 use crate::conditions::condition_at;
-use crate::modules::{ReadModule, ReadModules};
 use std::alloc::{AllocError, Global};
-use wesl_cond_choices::place::Place;
+use wesl_explain_places::ReadModules;
 use wesl_link_symbols::ids::{NameId, PathId};
 use wesl_link_symbols::symbols::Symbol;
 use wesl_link_symbols::table::Table;
+use wesl_tree::Span;
 
 // How many things that a name may stand for are told.
 const MOST: usize = 64;
@@ -17,60 +17,59 @@ pub struct Target {
     pub symbol: Symbol<PathId, NameId>,
     /// The condition of its binder as it is written, where that is known.
     pub condition: Option<String>,
+    /// Where its binder stands, the import or the declaration, where that is known.
+    pub span: Option<Span>,
 }
 
-/// Adds a target, unless it is there or there are many.
-fn add(
+/// Adds a target, unless it is there.
+fn add(targets: &mut Vec<Target>, target: Target) -> Result<(), AllocError> {
+    for other in targets.as_slice() {
+        if other.symbol == target.symbol {
+            return Ok(());
+        }
+    }
+    targets.push(target)?;
+    Ok(())
+}
+
+/// Adds what an import aims at, unless there are many.
+fn add_import(
     alloc: Global,
     targets: &mut Vec<Target>,
-    module: Option<&ReadModule>,
-    symbol: Symbol<PathId, NameId>,
-    place: Place,
+    read: &ReadModules,
+    table: &Table,
+    index: usize,
 ) -> Result<(), AllocError> {
     if targets.len() >= MOST {
         return Ok(());
     }
-    for target in targets.as_slice() {
-        if target.symbol == symbol {
-            return Ok(());
-        }
-    }
-    targets.push(Target {
-        symbol,
-        condition: condition_at(alloc, module, place)?,
-    })?;
-    Ok(())
-}
-
-/// Adds what an import aims at.
-fn add_import(
-    alloc: Global,
-    targets: &mut Vec<Target>,
-    module: Option<&ReadModule>,
-    table: &Table,
-    index: usize,
-) -> Result<(), AllocError> {
     let Some(import) = table.imports().get(index) else {
         return Ok(());
     };
+    let path = table.path();
     let symbol = Symbol {
         path: import.path,
         name: import.item,
     };
-    add(alloc, targets, module, symbol, import.place)
+    let target = Target {
+        symbol,
+        condition: condition_at(alloc, read.at(path), import.place)?,
+        span: read.import_span(path, index),
+    };
+    add(targets, target)
 }
 
 /// Adds what the imports of a name in a module aim at, the last first.
 fn add_imported(
     alloc: Global,
     targets: &mut Vec<Target>,
-    module: Option<&ReadModule>,
+    read: &ReadModules,
     table: &Table,
     name: NameId,
 ) -> Result<(), AllocError> {
     let mut at = table.latest_import_of(name);
     'imports: while let Some(index) = at {
-        add_import(alloc, targets, module, table, index)?;
+        add_import(alloc, targets, read, table, index)?;
         at = table.earlier_import_of(index, name);
     }
     Ok(())
@@ -80,7 +79,7 @@ fn add_imported(
 fn add_declared(
     alloc: Global,
     targets: &mut Vec<Target>,
-    module: Option<&ReadModule>,
+    read: &ReadModules,
     table: &Table,
     name: NameId,
 ) -> Result<(), AllocError> {
@@ -88,16 +87,15 @@ fn add_declared(
     let Some(index) = table.latest_of(Some(name)) else {
         return Ok(());
     };
-    match table.declarations().get(index) {
-        Some(declaration) => add(
-            alloc,
-            targets,
-            module,
-            Symbol { path, name },
-            declaration.place(),
-        ),
-        None => Ok(()),
-    }
+    let Some(declaration) = table.declarations().get(index) else {
+        return Ok(());
+    };
+    let target = Target {
+        symbol: Symbol { path, name },
+        condition: condition_at(alloc, read.at(path), declaration.place())?,
+        span: read.declaration_span(path, index),
+    };
+    add(targets, target)
 }
 
 /// What a name may stand for in a module: what its imports aim at, in their order, and the symbol of its own declarations.
@@ -107,10 +105,9 @@ pub fn targets_of(
     table: &Table,
     name: NameId,
 ) -> Result<Vec<Target>, AllocError> {
-    let module = read.at(table.path());
     let mut targets = Vec::new(alloc);
-    add_declared(alloc, &mut targets, module, table, name)?;
-    add_imported(alloc, &mut targets, module, table, name)?;
+    add_declared(alloc, &mut targets, read, table, name)?;
+    add_imported(alloc, &mut targets, read, table, name)?;
     targets.reverse();
     Ok(targets)
 }

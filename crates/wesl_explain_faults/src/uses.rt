@@ -4,16 +4,15 @@ ghost use Rattle.wesl_link_faults.specs.Searching.{IsReady};
 ghost use Rattle.wesl_explain_faults.specs.Told.{asker_in};
 
 use crate::held::HeldNodes;
-use crate::modules::ReadModules;
 use std::alloc::{AllocError, Global};
 use wesl_cond_choices::place::Place;
+use wesl_explain_places::{ReadModules, identifier_of, span_of};
 use wesl_link_faults::asker::Asker;
 use wesl_link_faults::given::{Given, ask};
 use wesl_link_reasons::node::Node;
 use wesl_link_symbols::ids::{NameId, PathId};
 use wesl_link_symbols::symbols::{LookUp, Symbol};
 use wesl_link_symbols::table::{Declaration, Table};
-use wesl_link_tables::marks::Mark;
 use wesl_tree::Span;
 
 /// A use of a name for which there is a fault.
@@ -25,49 +24,10 @@ pub struct Use {
     pub name: Option<NameId>,
     /// The number of the identifier in that declaration.
     pub identifier: Option<usize>,
-    /// Where that declaration stands in its source.
+    /// Where it is asked: the innermost node round that identifier, or the import.
     pub span: Option<Span>,
     /// Where what asks stands among what is held.
     pub place: Option<usize>,
-}
-
-/// Whether an identifier asks, or where unclear ones are counted is unclear.
-fn counts(mark: &Mark, is_unclear: bool) -> bool {
-    match mark {
-        Mark::Asks(_) => !is_unclear,
-        Mark::Unclear(_) => is_unclear,
-        _ => false,
-    }
-}
-
-/// The number of the identifier that is the one with this number of those that ask, or of those that are unclear.
-fn identifier_in(marks: &[Mark], is_unclear: bool, number: usize) -> Option<usize> {
-    let mut left = number;
-    for (index, mark) in marks.iter().enumerate() {
-        if counts(mark, is_unclear) {
-            if left == 0 {
-                return Some(index);
-            }
-            left -= 1;
-        }
-    }
-    None
-}
-
-/// The number of an asker's identifier in its declaration.
-fn identifier_of(read: &ReadModules, asker: Asker<PathId, NameId>) -> Option<usize> {
-    let (path, index, number, is_unclear) = match asker {
-        Asker::Named(path, index, number) => (path, index, number, false),
-        Asker::Unclear(path, index, number) => (path, index, number, true),
-        _ => return None,
-    };
-    match read.at(path) {
-        Some(module) => match module.marks.get(index) {
-            Some(marks) => identifier_in(marks, is_unclear, number),
-            None => None,
-        },
-        None => None,
-    }
 }
 
 /// The module and the number of the declaration that asks.
@@ -76,23 +36,6 @@ fn declaration_of(asker: Asker<PathId, NameId>) -> Option<(PathId, usize)> {
         Asker::Named(path, index, _) | Asker::Unclear(path, index, _) => Some((path, index)),
         _ => None,
     }
-}
-
-/// A span, unless it is not told.
-fn told(span: Span) -> Option<Span> {
-    if span.start == 0 && span.end == 0 {
-        None
-    } else {
-        Some(span)
-    }
-}
-
-/// Where the declaration stands that asks.
-fn span_of(read: &ReadModules, asker: Asker<PathId, NameId>) -> Option<Span> {
-    let (path, index) = declaration_of(asker)?;
-    let module = read.at(path)?;
-    let node = module.unit.global_declarations().get(index)?;
-    told(node.span)
 }
 
 /// The declaration with a number of the module at a path.
@@ -143,11 +86,12 @@ fn use_of(
     ensures { result.asker ≡ asker }
 {
     let name = name_of(given, asker);
+    let identifier = identifier_of(read, asker);
     Use {
         asker,
         name,
-        identifier: identifier_of(read, asker),
-        span: span_of(read, asker),
+        identifier,
+        span: span_of(read, asker, identifier),
         place: held.place_of(node_of(asker, name)),
     }
 }

@@ -3,7 +3,7 @@
 use crate::apart::{apart, uses_of};
 use crate::cures::cure_text;
 use crate::headings::{is_kept, push_head};
-use crate::places::{Places, push_span};
+use crate::places::{Places, file_of, push_span};
 use crate::text::push_heading;
 use crate::uses::push_uses;
 use std::alloc::{AllocError, Global};
@@ -28,7 +28,7 @@ fn push_line(
     line: &FaultLine,
 ) -> Result<(), AllocError> {
     out.push_str(line.text.as_str())?;
-    push_span(out, alloc, line, told, places)?;
+    push_span(out, alloc, line, file_of(told, places, line))?;
     out.push_str("\n")?;
     Ok(())
 }

@@ -1,7 +1,7 @@
 //! What is wrong in a link, in a line.
 
 use crate::chains::push_symbol;
-use crate::places::{Places, push_span};
+use crate::places::{ModuleFile, Places, push_place, push_span};
 use crate::text::push_quoted;
 use std::alloc::{AllocError, Global};
 use wesl_explain_world::{
@@ -120,7 +120,9 @@ fn push_missing(
 /// Writes what an import that is not published aims at.
 fn push_hidden(
     out: &mut String,
+    alloc: Global,
     told: &Explanation,
+    file: Option<ModuleFile<'_>>,
     link: &LinkFault,
     name: NameId,
 ) -> Result<(), AllocError> {
@@ -132,6 +134,7 @@ fn push_hidden(
         out.push_str(" (of ")?;
         push_symbol(out, told, target.symbol.path, target.symbol.name)?;
         out.push_str(")")?;
+        push_place(out, alloc, file, target.span)?;
     }
     Ok(())
 }
@@ -140,6 +143,7 @@ fn push_hidden(
 fn push_refused(
     out: &mut String,
     alloc: Global,
+    file: Option<ModuleFile<'_>>,
     fault: &Fault,
     path: &str,
 ) -> Result<(), AllocError> {
@@ -147,7 +151,8 @@ fn push_refused(
     out.push_str(" is refused")?;
     if fault.conditions.is_empty() {
         out.push_str(": ")?;
-        return out.push_str(fault.line.text.as_str());
+        out.push_str(fault.line.text.as_str())?;
+        return push_span(out, alloc, &fault.line, file);
     }
     let count = fault.conditions.len().to_string(alloc)?;
     out.push_str(", faults of its conditions: ")?;
@@ -159,6 +164,7 @@ fn push_absent(
     out: &mut String,
     alloc: Global,
     told: &Explanation,
+    file: Option<ModuleFile<'_>>,
     fault: &Fault,
     at: PathId,
 ) -> Result<(), AllocError> {
@@ -183,7 +189,7 @@ fn push_absent(
             out.push_str(path)?;
             out.push_str(" has a name with several targets, and more than 16 flags")?;
         }
-        _ => push_refused(out, alloc, fault, path)?,
+        _ => push_refused(out, alloc, file, fault, path)?,
     }
     Ok(())
 }
@@ -193,14 +199,15 @@ fn push_wrong(
     out: &mut String,
     alloc: Global,
     told: &Explanation,
+    file: Option<ModuleFile<'_>>,
     fault: &Fault,
     link: &LinkFault,
 ) -> Result<(), AllocError> {
     let at = told.path(link.wrong.at);
     match link.wrong.flaw {
-        Flaw::NoModule => push_absent(out, alloc, told, fault, link.wrong.at),
+        Flaw::NoModule => push_absent(out, alloc, told, file, fault, link.wrong.at),
         Flaw::Lacking(name) => push_missing(out, told, link, name),
-        Flaw::Hidden(name) => push_hidden(out, told, link, name),
+        Flaw::Hidden(name) => push_hidden(out, alloc, told, file, link, name),
         Flaw::Clash(name) => {
             push_quoted(out, told.name(name))?;
             out.push_str(" has two binders in ")?;
@@ -217,14 +224,21 @@ fn push_wrong(
     }
 }
 
-/// Writes what a name may stand for.
-fn push_target(out: &mut String, told: &Explanation, target: &Target) -> Result<(), AllocError> {
+/// Writes what a name may stand for, with the condition and the place of its binder.
+fn push_target(
+    out: &mut String,
+    alloc: Global,
+    told: &Explanation,
+    file: Option<ModuleFile<'_>>,
+    target: &Target,
+) -> Result<(), AllocError> {
     out.push_str("     ")?;
     push_symbol(out, told, target.symbol.path, target.symbol.name)?;
     if let Some(condition) = &target.condition {
         out.push_str("   ")?;
         out.push_str(condition.as_str())?;
     }
+    push_place(out, alloc, file, target.span)?;
     out.push_str("\n")?;
     Ok(())
 }
@@ -232,14 +246,16 @@ fn push_target(out: &mut String, told: &Explanation, target: &Target) -> Result<
 /// Writes all that a name may stand for, where it may stand for several things.
 fn push_targets(
     out: &mut String,
+    alloc: Global,
     told: &Explanation,
+    file: Option<ModuleFile<'_>>,
     targets: &[Target],
 ) -> Result<(), AllocError> {
     if targets.len() < 2 {
         return Ok(());
     }
     for target in targets {
-        push_target(out, told, target)?;
+        push_target(out, alloc, told, file, target)?;
     }
     Ok(())
 }
@@ -248,14 +264,13 @@ fn push_targets(
 fn push_conditions(
     out: &mut String,
     alloc: Global,
-    told: &Explanation,
-    places: &Places<'_>,
+    file: Option<ModuleFile<'_>>,
     lines: &[FaultLine],
 ) -> Result<(), AllocError> {
     for line in lines {
         out.push_str("     ")?;
         out.push_str(line.text.as_str())?;
-        push_span(out, alloc, line, told, places)?;
+        push_span(out, alloc, line, file)?;
         out.push_str("\n")?;
     }
     Ok(())
@@ -270,9 +285,10 @@ pub fn push_head(
     fault: &Fault,
     link: &LinkFault,
 ) -> Result<(), AllocError> {
-    push_wrong(out, alloc, told, fault, link)?;
+    let file = places.file(link.wrong.at);
+    push_wrong(out, alloc, told, file, fault, link)?;
     push_near(out, told, fault, link)?;
     out.push_str("\n")?;
-    push_targets(out, told, &link.targets)?;
-    push_conditions(out, alloc, told, places, &fault.conditions)
+    push_targets(out, alloc, told, file, &link.targets)?;
+    push_conditions(out, alloc, file, &fault.conditions)
 }

@@ -1,4 +1,5 @@
 //! Where what is told stands in files.
+use serde_json::Value;
 use std::alloc::{AllocError, Global};
 use wesl_explain_world::{Explanation, FaultLine, PathId};
 use wesl_text_lines::LineStarts;
@@ -52,32 +53,49 @@ pub(crate) fn push_file_place(
     out.push_str(line.as_str())
 }
 
-/// Writes where a fault stands: in its file where that is known, else in its source.
+/// Writes which bytes of its source something is.
+fn push_bytes(out: &mut String, alloc: Global, span: Option<Span>) -> Result<(), AllocError> {
+    let Some(span) = span else {
+        return Ok(());
+    };
+    let start = span.start.to_string(alloc)?;
+    let end = span.end.to_string(alloc)?;
+    out.push_str(" at [")?;
+    out.push_str(start.as_str())?;
+    out.push_str(",")?;
+    out.push_str(end.as_str())?;
+    out.push_str("]")
+}
+
+/// Writes where something stands: in which line of this file, or where that is not known at which bytes of its source.
+pub(crate) fn push_place(
+    out: &mut String,
+    alloc: Global,
+    file: Option<ModuleFile<'_>>,
+    span: Option<Span>,
+) -> Result<(), AllocError> {
+    match file {
+        Some(file) => push_file_place(out, alloc, ", ", Some(file), span),
+        None => push_bytes(out, alloc, span),
+    }
+}
+
+/// Writes where a fault stands: in this file, if it is known, else in its source.
 pub(crate) fn push_span(
     out: &mut String,
     alloc: Global,
     line: &FaultLine,
-    told: &Explanation,
-    places: &Places<'_>,
+    file: Option<ModuleFile<'_>>,
 ) -> Result<(), AllocError> {
-    let Some(span) = line.value.get("span") else {
-        return Ok(());
-    };
-    match (file_of(told, places, line), start_of(line)) {
-        (Some(file), Some(start)) => {
-            let span = Span { start, end: start };
-            push_file_place(out, alloc, " at ", Some(file), Some(span))
-        }
-        _ => {
-            let span = span.to_string(alloc)?;
-            out.push_str(" at ")?;
-            out.push_str(span.as_str())
-        }
+    let span = span_of(line);
+    match file {
+        Some(file) => push_file_place(out, alloc, " at ", Some(file), span),
+        None => push_bytes(out, alloc, span),
     }
 }
 
-// The file of the module in which a fault stands.
-fn file_of<'p>(
+/// The file of the module in which a fault stands that no module is asked for. There is one such fault at most.
+pub(crate) fn file_of<'p>(
     told: &Explanation,
     places: &Places<'p>,
     line: &FaultLine,
@@ -91,8 +109,16 @@ fn file_of<'p>(
     None
 }
 
-// The byte at which a fault stands.
-fn start_of(line: &FaultLine) -> Option<u32> {
-    let start = line.value.get("span")?.get(0_usize)?.as_u64()?;
-    u32::try_from(start).ok()
+// The bytes at which a fault stands.
+fn span_of(line: &FaultLine) -> Option<Span> {
+    let span = line.value.get("span")?;
+    Some(Span {
+        start: number_at(span, 0)?,
+        end: number_at(span, 1)?,
+    })
+}
+
+// A number of a list.
+fn number_at(list: &Value, place: usize) -> Option<u32> {
+    u32::try_from(list.get(place)?.as_u64()?).ok()
 }

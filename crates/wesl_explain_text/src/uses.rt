@@ -1,7 +1,7 @@
 //! Who asks for a fault, as text.
 
 use crate::chains::{chain_at, push_chain, push_symbol};
-use crate::places::{Places, push_file_place};
+use crate::places::{Places, push_place};
 use std::alloc::{AllocError, Global};
 use wesl_explain_world::{Asker, Explanation, NameId, PathId, Use};
 
@@ -113,17 +113,18 @@ fn module_of(asked: Use) -> Option<PathId> {
     }
 }
 
-/// Writes in which file and line it is asked.
+/// Writes where it is asked: in which file and line, or where no file is known which bytes of the source.
 fn push_asker_place(
     out: &mut String,
     alloc: Global,
     places: &Places<'_>,
     asked: Use,
 ) -> Result<(), AllocError> {
-    match module_of(asked) {
-        Some(path) => push_file_place(out, alloc, ", ", places.file(path), asked.span),
-        None => Ok(()),
-    }
+    let file = match module_of(asked) {
+        Some(path) => places.file(path),
+        None => None,
+    };
+    push_place(out, alloc, file, asked.span)
 }
 
 /// Writes how many uses there are, where there are several.

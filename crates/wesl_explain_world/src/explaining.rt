@@ -200,12 +200,13 @@ fn explain_world(
     let unused = unused_imports(alloc, &world, &texts)?;
     let faults = faults_in(alloc, unit, builtins.as_ref())?;
     let (names, paths) = texts.into_lists(alloc)?;
+    let is_eager = options.eager;
     let World {
-        linked: _,
+        linked,
         reasons,
         places: _,
         order,
-        kept: _,
+        kept,
     } = world;
     Ok(Explanation {
         paths,
@@ -218,5 +219,9 @@ fn explain_world(
         unused,
         faults,
         until: None,
+        linked: Some(linked),
+        tables: Vec::new(alloc),
+        kept,
+        is_eager,
     })
 }

@@ -7,8 +7,10 @@ use crate::world::{Chain, reason_of};
 use serde_json::Value;
 use std::alloc::{AllocError, Global};
 use wesl_explain_faults::{HeldUntil, LinkFault};
+use wesl_link_reach::link::Linked;
 use wesl_link_reasons::Reasons;
 use wesl_link_symbols::ids::{NameId, PathId};
+use wesl_link_symbols::table::Table;
 
 /// What is told of the link of a bundle.
 #[derive(Drop)]
@@ -33,6 +35,14 @@ pub struct Explanation {
     pub faults: Vec<Fault>,
     /// What was loaded and held until a link was refused.
     pub until: Option<HeldUntil>,
+    /// The modules and symbols of a link.
+    pub linked: Option<Linked>,
+    /// The symbol tables of the modules that were loaded until a link was refused.
+    pub tables: Vec<Table>,
+    /// The names of the root that are kept.
+    pub kept: Vec<NameId>,
+    /// Whether all that is declared is held.
+    pub is_eager: bool,
 }
 
 impl Explanation {
@@ -51,6 +61,10 @@ impl Explanation {
             unused: Vec::new(alloc),
             faults: Vec::new(alloc),
             until: None,
+            linked: None,
+            tables: Vec::new(alloc),
+            kept: Vec::new(alloc),
+            is_eager: false,
         }
     }
 

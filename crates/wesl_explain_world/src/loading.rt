@@ -54,19 +54,28 @@ impl<'t> TableLoader<'t> {
         ensures path { IfOk result (λ t. t.path ≡ id) }
     {
         let Tabled { table, marks } = table_of(alloc, &mut self.numbers, id, path, &unit)?;
-        self.keep(id, unit, marks)?;
+        self.keep(alloc, id, path, unit, marks)?;
         Ok(table)
     }
 
     /// Keeps a module that was read, where that is asked for.
     fn keep(
         &mut self,
-        path: PathId,
+        alloc: Global,
+        id: PathId,
+        path: &ModulePath,
         unit: TranslationUnit,
         marks: Vec<Vec<Mark>>,
-    ) -> Result<(), AllocError> {
+    ) -> Result<(), AllocError>
+        requires { is_relative (path_view path.now) ≡ false }
+    {
+        let module = ReadModule {
+            path: id,
+            unit,
+            marks,
+        };
         match &mut self.read {
-            Some(read) => read.put(ReadModule { path, unit, marks }),
+            Some(read) => read.put(alloc, path, module),
             None => Ok(()),
         }
     }

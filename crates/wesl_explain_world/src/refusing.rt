@@ -343,6 +343,24 @@ fn with_faults(
     Ok(told)
 }
 
+/// The same with what was loaded until then, and what was asked of it.
+fn with_tables(
+    alloc: Global,
+    told: Explanation,
+    tables: Vec<Table>,
+    kept: &[NameId],
+    is_eager: bool,
+) -> Result<Explanation, AllocError>
+    requires { TellsFaults told }
+    ensures { IfOk result TellsFaults }
+{
+    let mut told = told;
+    told.tables = tables;
+    told.kept = Vec::from_slice(alloc, kept)?;
+    told.is_eager = is_eager;
+    Ok(told)
+}
+
 /// The faults of a link: the one that it was refused with where no other was found.
 fn faults_or(
     alloc: Global,
@@ -429,7 +447,8 @@ fn explain_found(
         max_modules: request.max_modules,
     };
     let faults = faults_or(alloc, &mut around, &mut absences, faults, diagnostic)?;
-    with_faults(alloc, texts, faults, until)
+    let told = with_faults(alloc, texts, faults, until)?;
+    with_tables(alloc, told, tables, kept, request.is_eager)
 }
 
 /// What is told where there is no root to begin with.

@@ -1,0 +1,113 @@
+//! The declarations that are held, and who refers to them.
+
+use crate::asked::{asked_in, held_in, node_of, places_of};
+use crate::drawing::{View, push_arrow, push_frame, push_marked, push_node};
+use crate::graph::Graph;
+use crate::marks::{asking_node, faulty_node};
+use crate::nodes::{Arrow, Arrows, Nodes};
+use std::alloc::{AllocError, Global};
+use wesl_explain_text::loaded_in;
+use wesl_explain_world::{LinkFault, NameId, PathId};
+
+/// Writes the declarations of a name of a module, unless they are written, or its const_asserts.
+fn push_declaration(
+    out: &mut String,
+    view: View<'_>,
+    nodes: &mut Nodes,
+    path: PathId,
+    name: Option<NameId>,
+) -> Result<(), AllocError> {
+    let node = node_of(path, name);
+    if nodes.has(node) {
+        return Ok(());
+    }
+    nodes.put(node)?;
+    let label = match name {
+        Some(name) => view.told.name(name),
+        None => "const_assert",
+    };
+    push_node(out, view, "    ", node, Some(("label", label)))
+}
+
+/// Writes the held declarations of a module in a frame, if there are some.
+fn push_module(
+    out: &mut String,
+    view: View<'_>,
+    nodes: &mut Nodes,
+    path: PathId,
+    held: &[Option<NameId>],
+) -> Result<(), AllocError> {
+    if held.is_empty() {
+        return Ok(());
+    }
+    push_frame(out, view.told.path(path))?;
+    for name in held {
+        push_declaration(out, view, nodes, path, *name)?;
+    }
+    out.push_str("  }\n")
+}
+
+/// Writes the held declarations, module by module.
+fn push_nodes(
+    out: &mut String,
+    alloc: Global,
+    view: View<'_>,
+    nodes: &mut Nodes,
+) -> Result<(), AllocError> {
+    let places = places_of(alloc, view.told)?;
+    for path in loaded_in(view.told) {
+        let held = held_in(alloc, view.told, &places, *path)?;
+        push_module(out, view, nodes, *path, &held)?;
+    }
+    Ok(())
+}
+
+/// Adds who asks for what is faulty.
+fn add_askers(wrong: &mut Arrows, graph: Graph, link: &LinkFault) -> Result<(), AllocError> {
+    let to = faulty_node(graph, link);
+    for asked in &link.uses {
+        let from = asking_node(graph, *asked);
+        if from != to {
+            wrong.put(Arrow { from, to })?;
+        }
+    }
+    Ok(())
+}
+
+/// Who asks for what is faulty.
+fn wrong_arrows(alloc: Global, view: View<'_>) -> Result<Arrows, AllocError> {
+    let mut wrong = Arrows::new(alloc);
+    for fault in &view.told.faults {
+        if let Some(link) = &fault.link {
+            add_askers(&mut wrong, view.graph, link)?;
+        }
+    }
+    Ok(wrong)
+}
+
+/// Writes arrows that look so.
+fn push_arrows(
+    out: &mut String,
+    view: View<'_>,
+    arrows: &Arrows,
+    look: &str,
+) -> Result<(), AllocError> {
+    for arrow in &arrows.list {
+        push_arrow(out, view, *arrow, look)?;
+    }
+    Ok(())
+}
+
+/// Writes the declarations that are held, and who refers to them.
+pub fn push_declarations(
+    out: &mut String,
+    alloc: Global,
+    view: View<'_>,
+) -> Result<(), AllocError> {
+    let mut nodes = Nodes::new(alloc);
+    push_nodes(out, alloc, view, &mut nodes)?;
+    push_marked(out, view, &nodes)?;
+    let asked = asked_in(alloc, view.told)?;
+    push_arrows(out, view, &asked.held, "")?;
+    push_arrows(out, view, &wrong_arrows(alloc, view)?, " [color=\"red\"]")
+}
