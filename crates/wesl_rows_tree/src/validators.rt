@@ -5,7 +5,10 @@ use wesl_scope::{FreeUse, SyntaxUtil, free_names, free_uses};
 use wesl_tree::TranslationUnit;
 use wesl_validate::{validate_wesl, validate_wgsl};
 use wesl_validate_builtins::Builtins;
-use wesl_validate_faults::{UndefinedUse, faults_wesl, faults_wgsl, undefined_uses};
+use wesl_validate_faults::{
+    RepeatedName, RingMember, UndefinedUse, faults_wesl, faults_wgsl, repeated_names, ring_members,
+    undefined_uses,
+};
 
 /// The module of the `tree`, numbered by what its identifiers mean, or, where the row says `as_read`, by their spellings.
 fn numbered(row: Row<'_>) -> TranslationUnit {
@@ -81,6 +84,47 @@ pub fn undefined_told(row: Row<'_>) -> Value {
     let mut answer = List::new(row.alloc);
     for told in uses.as_slice() {
         answer.put(undefined_use_value(row, told));
+    }
+    answer.end(row)
+}
+
+/// A name that is declared again.
+fn repeated_value(row: Row<'_>, told: &RepeatedName<'_>) -> Value {
+    let mut answer = Object::new(row.alloc);
+    answer.number("first", told.first);
+    answer.text("name", told.name);
+    answer.number("place", told.place);
+    answer.end(row)
+}
+
+/// The names of the module that are declared again.
+pub fn repeated_told(row: Row<'_>) -> Value {
+    let unit = numbered(row);
+    let names = row.or(repeated_names(row.alloc, &unit), Vec::new(row.alloc));
+    let mut answer = List::new(row.alloc);
+    for told in names.as_slice() {
+        answer.put(repeated_value(row, told));
+    }
+    answer.end(row)
+}
+
+/// A declaration that reaches itself.
+fn member_value(row: Row<'_>, told: &RingMember<'_>) -> Value {
+    let mut answer = Object::new(row.alloc);
+    answer.number("last", told.last);
+    answer.text("name", told.name);
+    answer.number("place", told.place);
+    answer.text("via", told.via);
+    answer.end(row)
+}
+
+/// The declarations of the module that reach themselves.
+pub fn members_told(row: Row<'_>) -> Value {
+    let unit = numbered(row);
+    let members = row.or(ring_members(row.alloc, &unit), Vec::new(row.alloc));
+    let mut answer = List::new(row.alloc);
+    for told in members.as_slice() {
+        answer.put(member_value(row, told));
     }
     answer.end(row)
 }
