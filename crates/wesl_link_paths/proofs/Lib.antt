@@ -1,0 +1,5 @@
+pub mod Lists
+pub mod Slashes
+pub mod Nodes
+pub mod Putting
+pub mod Ways
