@@ -122,13 +122,14 @@ fn world_in(
 {
     let order = found.module_order(alloc)?;
     let mut loader = TableLoader::new(alloc, sources, false);
+    let root = loader.numbers.path(alloc, request.root)?;
     let world = world_of(alloc, &mut loader, request, &order)?;
     let TableLoader {
         sources: _,
         numbers,
         read: _,
     } = loader;
-    let texts = Texts::new(alloc, numbers)?;
+    let texts = Texts::new(alloc, numbers, root, world.linked.tables())?;
     Ok((world, texts))
 }
 

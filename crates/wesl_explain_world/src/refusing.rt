@@ -368,8 +368,13 @@ struct Loaded<'t> {
     read: ReadModules,
 }
 
-/// What a loader has loaded.
-fn loaded_of(alloc: Global, loader: TableLoader<'_>) -> Result<Loaded<'_>, AllocError> {
+/// What a loader has loaded: the modules of these tables, and the root.
+fn loaded_of<'t>(
+    alloc: Global,
+    loader: TableLoader<'t>,
+    root: PathId,
+    tables: &[Table],
+) -> Result<Loaded<'t>, AllocError> {
     let TableLoader {
         sources,
         numbers,
@@ -377,7 +382,7 @@ fn loaded_of(alloc: Global, loader: TableLoader<'_>) -> Result<Loaded<'_>, Alloc
     } = loader;
     Ok(Loaded {
         sources,
-        texts: Texts::new(alloc, numbers)?,
+        texts: Texts::new(alloc, numbers, root, tables)?,
         read: match read {
             Some(read) => read,
             None => ReadModules::new(alloc),
@@ -475,11 +480,16 @@ pub fn explain_refusal(
     let mut loader = TableLoader::new(alloc, sources, true);
     let root = loader.numbers.path(alloc, request.root)?;
     let found = opened_link(alloc, request, &mut loader)?;
-    let loaded = loaded_of(alloc, loader)?;
     match found {
-        Some((found, kept)) => explain_found(
-            alloc, request, diagnostic, loaded, listed, root, found, &kept,
-        ),
-        None => explain_root(alloc, request, diagnostic, loaded, root),
+        Some((found, kept)) => {
+            let loaded = loaded_of(alloc, loader, root, &found.tables)?;
+            explain_found(
+                alloc, request, diagnostic, loaded, listed, root, found, &kept,
+            )
+        }
+        None => {
+            let loaded = loaded_of(alloc, loader, root, &[])?;
+            explain_root(alloc, request, diagnostic, loaded, root)
+        }
     }
 }

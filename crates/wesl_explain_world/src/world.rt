@@ -129,8 +129,8 @@ fn numbers_of(
 ) -> Result<Vec<PathId>, AllocError> {
     let mut paths = Vec::new(alloc);
     for path in order {
-        if let Some(id) = loader.numbers.paths.find(path) {
-            paths.push(id)?;
+        if !path.is_relative() {
+            paths.push(loader.numbers.path(alloc, path)?)?;
         }
     }
     Ok(paths)

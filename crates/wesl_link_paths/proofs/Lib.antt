@@ -3,3 +3,4 @@ pub mod Slashes
 pub mod Nodes
 pub mod Putting
 pub mod Ways
+pub mod Joined

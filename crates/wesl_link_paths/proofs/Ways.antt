@@ -1,13 +1,14 @@
 -- Ways from a number to those before it.
-use Rattle.std.proofs.Common.{◌≡◌, ℕ, zero, suc, ◌<◌, ◌≤◌, ◌+◌, ◌-◌, Bool, true, false, Some, None, List, [], ◌∷◌, ◌++◌, length, get_or, take, drop, reverse, map, arith, refl, sym, subst, ap, ap₂, ◌∙◌, append_assoc, append-nil}
-use Rattle.std.specs.Prelude.{slice_get}
-use Rattle.std.proofs.lemmas.List.{reverse-append}
-use Rattle.wesl_tree_base.specs.Pieces.{Text}
+use Rattle.std.proofs.Common.{◌≡◌, ℕ, zero, suc, ◌<◌, ◌≤◌, ◌+◌, ◌-◌, Bool, true, false, Some, None, List, [], ◌∷◌, ◌++◌, length, get_or, take, drop, reverse, map, Bor, arith, refl, sym, subst, ap, ap₂, ◌∙◌, append_assoc, append-nil}
+use Rattle.std.specs.Prelude.{slice_get, Result, Ok, Err, IfOk}
+use Rattle.std.proofs.lemmas.List.{map-append, reverse-append}
+use Rattle.wesl_tree_base.specs.Borrowed.{texts}
+use Rattle.wesl_tree_base.specs.Pieces.{Text, has, slash}
 use Rattle.wesl_tree_names.specs.Path.{Origin, absolute, relative, from_package, Path, root_path, push, extend, is_relative, join_origin, same_origin}
 use Rattle.wesl_tree_base.specs.declared.ids.NameId.{NameId}
 use Rattle.wesl_link_symbols.specs.declared.ids.PathId.{PathId}
 use Rattle.wesl_link_paths.specs.Longer.{IsLonger, path_in}
-use Rattle.wesl_link_paths.specs.Nodes.{AreWhole, IsWhole, above, in_package, is_root, node_path, packaged, part_in, paths_by, root_of}
+use Rattle.wesl_link_paths.specs.Nodes.{AreWhole, IsWholePackage, IsWholePath, above, in_package, is_root, node_path, packaged, part_in, paths_by, root_of}
 use Rattle.wesl_link_paths.specs.declared.node.PathNode.{PathNode}
 use Rattle.wesl_link_paths.specs.declared.node.PathNode.TheVariants.{Root, Package, Under}
 use Rattle.wesl_link_paths.proofs.Lists.{below_held, getting, held_below, path_held, path_of}
@@ -62,19 +63,55 @@ module _ (parts : List Text) (ns : List PathNode) (whole : AreWhole parts ns) wh
   IsNoPath n = (r p : PathId) (m : NameId) → n ≡ Under r p m → ⊥
 
   pub other_root : (id : PathId) (n : PathNode) → slice_get ns id.0 ≡ Some n → IsNoPath n → path_in paths id ≡ root_of (path_in paths id)
-  other_root id Root at no = path_by id Root at ∙ ap root_of (sym (path_by id Root at))
-  other_root id (Package p n) at no = path_by id (Package p n) at ∙ ap root_of (sym (path_by id (Package p n) at))
-  other_root id (Under r p n) at no = absurd (no r p n refl)
+  other_root id Root at other = path_by id Root at ∙ ap root_of (sym (path_by id Root at))
+  other_root id (Package p n) at other = path_by id (Package p n) at ∙ ap root_of (sym (path_by id (Package p n) at))
+  other_root id (Under r p n) at other = absurd (other r p n refl)
 
   -- a package's root that is in no other package
   pub first_root : (id : PathId) (n : PathNode) → slice_get ns id.0 ≡ Some n → ((p : PathId) (m : NameId) → n ≡ Package p m → ⊥) → is_root (path_in paths id) ≡ true → (path_in paths id).origin ≡ absolute
-  first_root id Root at no h = ap (λ p. p.origin) (path_by id Root at)
-  first_root id (Package p n) at no h = absurd (no p n refl)
-  first_root id (Under r p n) at no h = absurd (some (path_in paths p).components (part_in parts n) (ap (λ q. q.components) (sym (path_by id (Under r p n) at)) ∙ no_components (path_in paths id) h))
+  first_root id Root at other h = ap (λ p. p.origin) (path_by id Root at)
+  first_root id (Package p n) at other h = absurd (other p n refl)
+  first_root id (Under r p n) at other h = absurd (some (path_in paths p).components (part_in parts n) (ap (λ q. q.components) (sym (path_by id (Under r p n) at)) ∙ no_components (path_in paths id) h))
     where
       some : (xs : List Text) (x : Text) → xs ++ x ∷ [] ≡ [] → ⊥
       some [] x e = cc
       some (y ∷ xs) x e = cc
+
+-- ---- a node that is made
+
+module _ (parts : List Text) (paths : List Path) (p : PathId) (n : NameId) (text : Text) (named : slice_get parts n.0 ≡ Some text) (below : p.0 < length paths) where
+  pub under_whole : (r : PathId) → slice_get paths r.0 ≡ Some (root_of (path_in paths p)) → IsWholePath parts paths (length paths) r p n
+  under_whole r at =
+      let is : path_in paths r ≡ root_of (path_in paths p) = path_of paths r (root_of (path_in paths p)) at in
+      record {
+        name = held_below parts n.0 text named;
+        before = below;
+        outer = held_below paths r.0 (root_of (path_in paths p)) at;
+        root = ap is_root is;
+        origin = ap (λ q. same_origin q.origin (path_in paths p).origin) is ∙ origin_itself (path_in paths p).origin;
+      }
+
+  pub package_whole : has slash text ≡ false → is_root (path_in paths p) ≡ true → is_relative (path_in paths p) ≡ false → IsWholePackage parts paths (length paths) p n
+  package_whole clear root asked = record {
+    name = held_below parts n.0 text named;
+    clear = ap (has slash) (getting parts n.0 text [] named) ∙ clear;
+    before = below;
+    root = root;
+    asked = asked;
+  }
+
+  pub part_is : part_in parts n ≡ text
+  part_is = getting parts n.0 text [] named
+
+pub if_ok : {A E : Type 0} {P Q : A → Type 0} (r : Result A E) → ((x : A) → P x → Q x) → IfOk r P → IfOk r Q
+if_ok (Ok x) f h = f x h
+if_ok (Err e) f h = h
+
+pub extend_none : (p : Path) → extend p [] ≡ p
+extend_none p = ap (λ cs. record { origin = p.origin; components = cs }) (append-nil p.components)
+
+pub extend_next : (p : Path) (xs : List Text) (x : Text) → push (extend p xs) x ≡ extend p (xs ++ x ∷ [])
+extend_next p xs x = ap (λ cs. record { origin = p.origin; components = cs }) (append_assoc p.components xs (x ∷ []))
 
 -- ---- so many components above
 
@@ -144,3 +181,26 @@ components_next p q t found whole e h =
 -- one package more was found
 pub packages_next : (p q : Path) (t : Text) (found : List Text) (whole : Origin) → p ≡ in_package q t → packaged p.origin (reverse found) ≡ whole → packaged q.origin (reverse (found ++ t ∷ [])) ≡ whole
 packages_next p q t found whole e h = ap (packaged q.origin) (reverse_one found t) ∙ (ap (λ r. packaged r.origin (reverse found)) (sym e) ∙ h)
+
+-- a text more, and the texts from the last to the first
+pub texts_next : (found new : List (Bor Text)) (x : Bor Text) (t : Text) → new ≡ found ++ x ∷ [] → x.now ≡ t → texts new ≡ texts found ++ t ∷ []
+texts_next found new x t e same = ap texts e ∙ (map-append (λ (y : Bor Text). y.now) found (x ∷ []) ∙ ap (λ u. texts found ++ u ∷ []) same)
+
+pub texts_turned : (found new : List (Bor Text)) → new ≡ reverse found → texts new ≡ reverse (texts found)
+texts_turned found new e = ap texts e ∙ turned found
+  where
+    turned : (xs : List (Bor Text)) → texts (reverse xs) ≡ reverse (texts xs)
+    turned [] = refl
+    turned (x ∷ xs) =
+        ap texts (reverse-append (x ∷ []) xs) ∙ (map-append (λ (y : Bor Text). y.now) (reverse xs) (x ∷ []) ∙ (ap (λ l. l ++ x.now ∷ []) (turned xs) ∙ sym (reverse-append (x.now ∷ []) (texts xs))))
+
+-- a root has no components of its own
+pub components_all : (p : Path) (found : List Text) → p ≡ root_of p → found ≡ p.components ++ found
+components_all p found e = sym (ap (λ q. q.components ++ found) e)
+
+pub map_next : {X Y : Type 0} (f : X → Y) (xs : List X) (i : ℕ) (x : X) → i < length xs → x ≡ get_or xs i x → map f (take (i + 1) xs) ≡ map f (take i xs) ++ f x ∷ []
+map_next f [] i x b e = absurd (omega (arith, b))
+map_next f (y ∷ xs) zero x b e = let g : x ≡ y = e in ap (λ z. f z ∷ []) (sym g)
+map_next f (y ∷ xs) (suc i) x b e =
+    let n : suc i + 1 ≡ suc (i + 1) = omega arith in
+    rw n (ap (λ l. f y ∷ l) (map_next f xs i x (omega (arith, b)) e))

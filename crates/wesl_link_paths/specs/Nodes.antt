@@ -22,6 +22,10 @@ abbrev pub packaged : Origin → List Text → Origin
 packaged o [] = o
 packaged o (name ∷ names) = packaged (join_origin o (from_package name)) names
 
+-- the root of that package
+abbrev pub packaged_root : Path → List Text → Path
+packaged_root p names = record { origin = packaged p.origin names; components = [] }
+
 -- the root of the package of a path
 abbrev pub root_of : Path → Path
 root_of p = record { origin = p.origin; components = [] }

@@ -7,7 +7,7 @@ ghost use Rattle.wesl_tree_names.specs.Path.{absolute, path_view, origin_view, e
 ghost use Rattle.wesl_tree_interner.specs.Different.{AreDifferent};
 ghost use Rattle.wesl_tree_interner.specs.Interned.{texts_of};
 ghost use Rattle.wesl_link_paths.specs.Longer.{IsLonger, path_in};
-ghost use Rattle.wesl_link_paths.specs.Nodes.{AreWhole, IsWhole, Puts, above, in_package, is_root, node_path, package_root, packaged, paths_by, root_of};
+ghost use Rattle.wesl_link_paths.specs.Nodes.{AreWhole, IsWhole, Puts, above, in_package, is_root, node_path, package_root, packaged, packaged_root, paths_by, root_of};
 
 use crate::node::PathNode;
 use crate::texts::PathTexts;
@@ -26,6 +26,13 @@ fn put<K: Eq + Hash + Drop>(keys: &mut IndexSet<K>, key: K) -> Result<usize, All
 {
     let (index, _) = keys.insert_full(key)?;
     Ok(index)
+}
+
+/// Nodes by their numbers.
+fn nodes_in(alloc: Global, nodes: IndexSet<PathNode>) -> Result<Vec<PathNode>, AllocError>
+    ensures { IfOk result (λ v. v.items ≡ nodes.keys) }
+{
+    nodes.into_iter().collect(alloc)
 }
 
 /// The texts between the slashes.
@@ -136,6 +143,21 @@ impl PathNumbers {
         self.number_node(PathNode::Package(outer, name))
     }
 
+    /// The same of names that lead from one package to the next.
+    fn dependencies(&mut self, outer: PathId, names: &[&str]) -> Result<PathId, AllocError>
+        requires below { outer.0 < length (paths_of self.old) }
+        requires root { is_root (path_in (paths_of self.old) outer) ≡ true }
+        requires clear { All (λ t. has slash t.now ≡ false) names.now }
+        ensures held { IfOk result (λ i. slice_get (paths_of self.new) i.0 ≡ Some (packaged_root (path_in (paths_of self.old) outer) (texts names.now))) }
+        ensures grows { IsLonger (paths_of self.old) (paths_of self.new) }
+    {
+        let mut at = outer;
+        for name in names {
+            at = self.dependency(at, name)?;
+        }
+        Ok(at)
+    }
+
     /// The same of a name that may have slashes.
     fn package_in(
         &mut self,
@@ -149,11 +171,7 @@ impl PathNumbers {
         ensures grows { IsLonger (paths_of self.old) (paths_of self.new) }
     {
         let pieces = between_slashes(alloc, name)?;
-        let mut at = outer;
-        for piece in &pieces {
-            at = self.dependency(at, piece)?;
-        }
-        Ok(at)
+        self.dependencies(outer, &pieces)
     }
 
     /// The number of the root of a package. Refused for want of memory alone.
@@ -297,7 +315,7 @@ impl PathNumbers {
     {
         let PathNumbers { parts, nodes } = self;
         let parts = parts.into_texts(alloc)?;
-        let nodes = nodes.into_iter().collect(alloc)?;
+        let nodes = nodes_in(alloc, nodes)?;
         Ok(PathTexts { parts, nodes })
     }
 }

@@ -1,7 +1,7 @@
 use Rattle.std.proofs.Common.{◌∙◌, ◌++◌, ap, map}
-use Rattle.wesl_tree_names.specs.Path.{path_view}
 use Rattle.wesl_tree_syntax.specs.View.{import_view as statement_view}
 use Rattle.wesl_link_tables.specs.Imports.{statement_imports}
+use Rattle.wesl_link_tables.specs.Numbering.{path_in}
 use Rattle.wesl_link_tables.specs.NumbersView.{paths_of}
 use Rattle.wesl_link_tables.specs.Walks.{import_view}
 use Rattle.wesl_link_tables.proofs.Known.{found_later, found_same}
@@ -15,7 +15,7 @@ add_content-requires-clause-known c = found_later (paths_of c.args.paths.now) (p
 
 pub returns-clause-imports : goal.returns-clause-imports
 returns-clause-imports c =
-    let own = path_view c.args.own.now in
+    let own = path_in (paths_of c.args.paths.now) c.args.own in
     let first = paths_of c.args.paths.now in
     let now = paths_of c.base_of.new.paths in
     let stays = found_same first now c.base_of.ensures.grows c.args.found.now.items c.requires.known in
