@@ -13,12 +13,19 @@ BYTES_AT_MOST = 250
 SETS_AT_MOST = 40
 
 
+# How many times as fast as its bytes the work of a shape may grow, and that of one which prints a long name for each of its
+# parts: the line is then a square of the input, in these sizes a small part of the work.
+GROWTH_AT_MOST = 1.15
+PRINTED_AT_MOST = 1.25
+
+
 class Shape(NamedTuple):
     name: str
     count: int
     make: Callable[[int], bytes]
     is_refused: bool = False
     memory: int = BYTES_AT_MOST
+    growth: float = GROWTH_AT_MOST
 
 
 def text(value):
@@ -311,7 +318,7 @@ def long_paths():
     ))
     yield Shape("references by super in a module with a long path", 150, lambda count: deep_root(
         count, beside(count), declarations=[function("k", *({"k": "call", "call": {"ty": at("super::m", "f")}} for _ in range(count)))]
-    ))
+    ), growth=PRINTED_AT_MOST)
     yield Shape("references by package in a module with a long path", 150, lambda count: deep_root(
         count,
         [items("package::m", ["f"])],
@@ -322,7 +329,7 @@ def long_paths():
     ))
     yield Shape("references under an import of a module with a long path", 150, lambda count: main_of_uses(
         [at("q", "f")] * count, [items(f"{under('package', count)}::q", ["f"])], inside(under("package", count), {"item": "q"})
-    ))
+    ), growth=PRINTED_AT_MOST)
     yield Shape("references under an import of a module with a long path, each to another module", 150, lambda count: main_of_uses(
         [True],
         declarations=[const(f"u{place}", at(f"q::r{place}", "f")) for place in range(count)],

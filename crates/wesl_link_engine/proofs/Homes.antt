@@ -1,7 +1,8 @@
 -- Paths of modules by their numbers, and nodes that are told by them.
-use Rattle.std.proofs.Common.{◌≡◌, ◌⊎◌, inl, inr, ℕ, zero, suc, ◌<◌, ◌+◌, Some, List, [], ◌∷◌, map, take, length, get_or, Contains, arith, refl, sym, subst, ap, ◌∙◌}
+use Rattle.std.proofs.Common.{◌≡◌, ◌⊎◌, inl, inr, ℕ, zero, suc, ◌<◌, ◌+◌, Some, List, [], ◌∷◌, ◌++◌, map, take, length, get_or, Contains, arith, refl, sym, subst, ap, ◌∙◌}
 use Rattle.std.specs.Prelude.{slice_get}
 use Rattle.wesl_tree_names.specs.Path.{Text, Path, path_view}
+use Rattle.wesl_tree_names.specs.declared.path.ModulePath.{ModulePath}
 use Rattle.wesl_link_symbols.specs.Keyed.{Puts}
 use Rattle.wesl_link_symbols.specs.declared.ids.PathId.{PathId}
 use Rattle.wesl_tree_base.specs.declared.ids.NameId.{NameId}
@@ -18,6 +19,7 @@ use Rattle.wesl_link_reasons.specs.Reasons.{Chain, IsHeld, IsReason, task_from}
 use Rattle.wesl_link_reasons.specs.Reasons.Chain.{alone, before}
 use Rattle.wesl_link_reasons.proofs.Holding.{first_held, holds_on}
 use Rattle.wesl_link_paths.proofs.Lists.{get_end, held_below}
+use Rattle.wesl_link_tables.proofs.Lists.{take_next}
 use Rattle.wesl_link_tables.specs.Numbering.{NameAt, PathAt}
 use Rattle.wesl_link_tables.specs.TextsView.{numbering_of_texts as numbering}
 use Rattle.wesl_tree_interner.proofs.Interning.{get_map}
@@ -144,3 +146,29 @@ module _ (l : Link) (sound : IsLinkOf (task_in l) l) where
         by (Item s) at = none s.name.0 at.name
         by (KeptName m) at = absurd at
         by (Module p) at = absurd at
+
+-- the path of the module at an index
+pub home_path : (l : Link) (p : PathId) (i : ℕ) (m : ModulePath) → IsHomeAt l p i → slice_get (map (λ n. path_view n.path) (all_loaded l)) i ≡ Some (path_view m) → PathAt (numbering l.numbers) p (path_view m)
+home_path l p i m (n, at, named) there =
+    let same : path_view n.path ≡ path_view m = alone_one (sym (get_map (λ (x : LoadedModule). path_view x.path) (all_loaded l) i n at) ∙ there) in
+    subst (λ (q : Path). PathAt (numbering l.numbers) p q) same named
+  where
+    alone_one : {X : Type 0} {x y : X} → Some x ≡ Some y → x ≡ y
+    alone_one e = cc
+
+-- none of one module more
+pub none_next : (ms : List LoadedModule) (m : LoadedModule) (q : Path) → ((n : LoadedModule) → Contains ms n → path_view n.path ≡ q → ⊥) → (path_view m.path ≡ q → ⊥) → (n : LoadedModule) → (m ≡ n) ⊎ Contains ms n → path_view n.path ≡ q → ⊥
+none_next ms m q none apart n (inl e) is = apart (ap (λ (x : LoadedModule). path_view x.path) e ∙ is)
+none_next ms m q none apart n (inr c) is = none n c is
+
+-- an element of the first ones and the next
+pub take_cases : (root : LoadedModule) (xs : List LoadedModule) (i : ℕ) (m n : LoadedModule) → i < length xs → m ≡ get_or xs i m → Contains (root ∷ take (i + 1) xs) n → (m ≡ n) ⊎ Contains (root ∷ take i xs) n
+take_cases root xs i m n b is c = by (contains_cases root n (take (i + 1) xs) c)
+  where
+    last : (ys : List LoadedModule) → Contains (ys ++ m ∷ []) n → (m ≡ n) ⊎ Contains ys n
+    last [] d = elim (contains_cases m n [] d) [ inl e ↦ inl e | inr f ↦ absurd (contains_nil n f) ]
+    last (y ∷ ys) d = elim (contains_cases y n (ys ++ m ∷ []) d) [ inl e ↦ inr (subst (λ (x : LoadedModule). Contains (y ∷ ys) x) e (contains_first y ys)) | inr f ↦ elim (last ys f) [ inl e ↦ inl e | inr g ↦ inr (contains_later y n ys g) ] ]
+
+    by : (root ≡ n) ⊎ Contains (take (i + 1) xs) n → (m ≡ n) ⊎ Contains (root ∷ take i xs) n
+    by (inl e) = inr (subst (λ (x : LoadedModule). Contains (root ∷ take i xs) x) e (contains_first root (take i xs)))
+    by (inr d) = elim (last (take i xs) (subst (λ (l : List LoadedModule). Contains l n) (take_next xs i m b is) d)) [ inl e ↦ inl e | inr f ↦ inr (contains_later root n (take i xs) f) ]

@@ -1,11 +1,17 @@
 -- Paths as a module means them.
-use Rattle.std.proofs.Common.{◌≡◌, ℕ, zero, suc, ◌<◌, ◌≤◌, ◌+◌, ◌-◌, false, Bor, All, List, [], ◌∷◌, ◌++◌, length, get_or, take, drop, map, arith, refl, sym, subst, ap, ap₂, ◌∙◌, append-nil, append_assoc}
+use Rattle.std.proofs.Common.{◌≡◌, ℕ, zero, suc, ◌<◌, ◌≤◌, ◌+◌, ◌-◌, false, Bor, All, List, [], ◌∷◌, ◌++◌, length, get_or, take, drop, map, arith, refl, sym, subst, ap, ap₂, ◌∙◌, append-nil, append_assoc, true≢false}
+use Rattle.std.specs.Prelude.{◌==◌}
 use Rattle.std.specs.List.{join_by}
 use Rattle.wesl_tree_base.specs.Borrowed.{texts}
 use Rattle.wesl_tree_base.specs.Pieces.{Text, cut, has, slash}
-use Rattle.wesl_tree_names.specs.Path.{Origin, absolute, relative, from_package, Path, extend, is_relative, join, join_origin, kept_components, origin_is_relative, root_path}
+use Rattle.wesl_tree_names.specs.Path.{Origin, absolute, relative, from_package, Path, extend, is_relative, join, join_origin, kept_components, origin_is_relative, origin_view, root_path}
+use Rattle.wesl_tree_names.specs.declared.path.PathOrigin.{PathOrigin}
 use Rattle.wesl_link_paths.specs.Nodes.{above, in_package, packaged, packaged_root, root_of}
 use Rattle.wesl_link_paths.proofs.Slashes.{AreClear, packaged_cut, packaged_slashed, slashed}
+
+-- where a path of this origin begins, as a module means it
+abbrev pub joined_to : Path → PathOrigin → Path
+joined_to p o = join p (record { origin = origin_view o; components = [] })
 
 origin_stays : (o : Origin) → origin_is_relative o ≡ false → o ≡ join_origin o absolute
 origin_stays absolute h = refl
@@ -74,3 +80,7 @@ drop_end [] zero b = refl
 drop_end [] (suc i) b = refl
 drop_end (p ∷ ps) zero b = absurd (omega (arith, b))
 drop_end (p ∷ ps) (suc i) b = drop_end ps i (omega (arith, b))
+
+-- a list with so many elements is none without
+pub some_names : {X : Type 0} (n : ℕ) (xs : List X) → n ≡ length xs → (n == 0) ≡ false → xs ≡ [] → ⊥
+some_names n xs e h g = let none : n ≡ 0 = e ∙ ap length g in true≢false (sym (ap (λ k. k == 0) none) ∙ h)

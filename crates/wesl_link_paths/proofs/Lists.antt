@@ -1,5 +1,5 @@
 -- Lists that go on, and what stands in them.
-use Rattle.std.proofs.Common.{◌≡◌, ℕ, zero, suc, ◌<◌, ◌+◌, Some, List, [], ◌∷◌, ◌++◌, length, get_or, arith, refl, sym, ap, ◌∙◌, append_assoc, append-nil}
+use Rattle.std.proofs.Common.{◌≡◌, ℕ, zero, suc, ◌<◌, ◌≤◌, ◌+◌, Some, None, List, [], ◌∷◌, ◌++◌, length, get_or, arith, refl, sym, ap, ◌∙◌, append_assoc, append-nil}
 use Rattle.std.specs.Prelude.{slice_get}
 use Rattle.wesl_tree_names.specs.Path.{Path, root_path}
 use Rattle.wesl_link_symbols.specs.declared.ids.PathId.{PathId}
@@ -34,6 +34,11 @@ pub held_below : {X : Type 0} (xs : List X) (i : ℕ) (x : X) → slice_get xs i
 held_below [] i x h = absurd (let z : ⊥ = cc in z)
 held_below (y ∷ xs) zero x h = omega arith
 held_below (y ∷ xs) (suc i) x h = let b : i < length xs = held_below xs i x h in omega (arith, b)
+
+pub none_above : {X : Type 0} (xs : List X) (i : ℕ) → length xs ≤ i → slice_get xs i ≡ None
+none_above [] i b = refl
+none_above (y ∷ xs) zero b = absurd (omega (arith, b))
+none_above (y ∷ xs) (suc i) b = none_above xs i (omega (arith, b))
 
 pub get_end : {X : Type 0} (xs : List X) (x : X) → slice_get (xs ++ x ∷ []) (length xs) ≡ Some x
 get_end [] x = refl

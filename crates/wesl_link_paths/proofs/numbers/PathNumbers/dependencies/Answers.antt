@@ -1,4 +1,4 @@
-use Rattle.std.proofs.Common.{◌≡◌, Some, [], ap, sym, ◌∙◌}
+use Rattle.std.proofs.Common.{◌≡◌, ◌+◌, Some, [], drop, ap, sym, ◌∙◌}
 use Rattle.wesl_tree_base.specs.Borrowed.{texts}
 use Rattle.wesl_link_paths.specs.Longer.{path_in}
 use Rattle.wesl_link_paths.specs.Nodes.{is_root, packaged}
@@ -19,7 +19,8 @@ loop-name-preserved c =
     record {
       below = held_below new c.in_ok-at.at.0 _ c.in_ok-at.ensures.held;
       root = ap is_root is;
-      origin = ap (λ p. packaged p.origin _) is ∙ (ap (packaged (path_in now c.loop-name.at).origin) (sym (drop_next c.args.names.now c.loop-name.name-index _ c.loop-name-test.true)) ∙ c.loop-name.invariant.origin);
+      origin = ap (λ p. packaged p.origin (drop (c.loop-name.name-index + 1) (texts c.args.names.now))) is
+          ∙ (ap (packaged (path_in now c.loop-name.at).origin) (sym (drop_next c.args.names.now c.loop-name.name-index (record { ref_ptr = (0, 0); now = [] }) c.loop-name-test.true)) ∙ c.loop-name.invariant.origin);
       grows = longer_trans (paths_of c.args.self.now) now new c.loop-name.invariant.grows c.dependency.ensures.grows;
     }
 
