@@ -159,12 +159,7 @@ impl PathNumbers {
     }
 
     /// The same of a name that may have slashes.
-    fn package_in(
-        &mut self,
-        alloc: Global,
-        outer: PathId,
-        name: &str,
-    ) -> Result<PathId, AllocError>
+    fn package_in(&mut self, alloc: Global, outer: PathId, name: &str) -> Result<PathId, AllocError>
         requires below { outer.0 < length (paths_of self.old) }
         requires root { is_root (path_in (paths_of self.old) outer) ≡ true }
         ensures held { IfOk result (λ i. slice_get (paths_of self.new) i.0 ≡ Some (in_package (path_in (paths_of self.old) outer) name.now)) }

@@ -1,5 +1,5 @@
 -- What paths aim at, by numbers.
-use Rattle.std.proofs.Common.{◌≡◌, Some, None, List, [], ◌∷◌, map, take, refl, sym, ap, ap₂, ◌∙◌}
+use Rattle.std.proofs.Common.{◌≡◌, Some, None, All, List, [], ◌∷◌, map, take, arith, refl, sym, subst, ap, ap₂, ◌∙◌}
 use Rattle.std.specs.Prelude.{slice_get}
 use Rattle.wesl_tree_names.specs.Path.{Text, Path, extend, join, push, root_path}
 use Rattle.wesl_link_symbols.specs.declared.ids.PathId.{PathId}
@@ -24,3 +24,8 @@ module _ (nb : Numbering) (own s : Path) where
 -- the item of an import as a module, from its number on
 pub item_module : (nb : Numbering) (b : Binder PathId NameId) (x : Text) (cs : List Text) (p : Path) (s : Path) → slice_get nb.names b.item.0 ≡ Some x → p ≡ push (path_in nb.paths b.path) x → cs ≡ s.components → extend p cs ≡ module_in_place s (spelled_binder nb b)
 item_module nb b x cs p s named is same = ap₂ extend (is ∙ ap (push (path_in nb.paths b.path)) (sym (getting nb.names b.item.0 x [] named))) same
+
+-- what is known of all imports is known of the first
+pub known_first : (P : Binder PathId NameId → Type 0) (is : List (Binder PathId NameId)) (b : Binder PathId NameId) → slice_get is 0 ≡ Some b → All P is → P b
+known_first P [] b h k = absurd (let z : ⊥ = cc in z)
+known_first P (c ∷ is) b h k = let e : c ≡ b = cc in subst P e (k 0 c (omega arith))

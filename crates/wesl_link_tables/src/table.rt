@@ -472,8 +472,8 @@ impl Parts {
         }
     }
 
-    /// Makes the parts of a unit that stands at the path with this number, has these numbers, and whose names stand for this. It holds nothing,
-    /// so where memory is wanting nothing is let go.
+    /// Makes the parts of a unit that stands at the path with this number, has these numbers, and whose names stand for this. It
+    /// holds nothing, so where memory is wanting nothing is let go.
     fn fill(
         &mut self,
         alloc: Global,

@@ -1,4 +1,4 @@
-use Rattle.std.proofs.Common.{◌≡◌, Some, string_bytes, ap, sym, ◌∙◌}
+use Rattle.std.proofs.Common.{◌≡◌, Some, string_bytes, ap, ap₂, sym, ◌∙◌}
 use Rattle.wesl_link_paths.specs.Longer.{path_in}
 use Rattle.wesl_link_paths.specs.NumbersView.{paths_of}
 use Rattle.wesl_tree_names.specs.Path.{root_path}
@@ -31,5 +31,5 @@ returns-in-Package-clause-held c =
     let paths = paths_of c.args.self.now in
     let p = path_in paths c.args.own in
     if_ok c.package_in.result
-    (λ i h. h ∙ ap Some (ap (λ q. in_package q (string_bytes c.in-Package.name)) (path_of paths c.root_of-root.result (root_of p) c.root_of-root.ensures) ∙ (join_named_root p (string_bytes c.in-Package.name) ∙ ap (joined_to p) (sym c.in-Package.is))))
+    (λ i h. h ∙ ap Some (ap₂ in_package (path_of paths c.root_of-root.result (root_of p) c.root_of-root.ensures) c.deref.ensures ∙ (join_named_root p (string_bytes c.in-Package.name) ∙ ap (joined_to p) (sym c.in-Package.is))))
     c.package_in.ensures.held
