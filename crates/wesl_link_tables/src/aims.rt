@@ -1,5 +1,5 @@
 //! Where the paths before names lead (WESL, "Imports").
-ghost use Rattle.std.specs.Prelude.{◌≡◌, ◌<◌, ◌∷◌, [], All, IfOk, Some, length, map, slice_get};
+ghost use Rattle.std.specs.Prelude.{◌≡◌, ◌<◌, All, IfOk, Some, length, map, slice_get};
 ghost use Rattle.wesl_tree_names.specs.Path.{path_view};
 ghost use Rattle.wesl_link_tables.specs.Aims.{Aims, IsKnown, spelled_binder};
 ghost use Rattle.wesl_link_tables.specs.Numbering.{Grows, path_in};
@@ -23,8 +23,8 @@ fn module_in_place(
     ensures grows { Grows (numbering numbers.old) (numbering numbers.new) }
 {
     let item = numbers.names.get(import.item);
-    let module = numbers.paths.child(import.path, item)?;
-    numbers.paths.extended(module, &path.components)
+    let place = numbers.paths.child(import.path, item)?;
+    numbers.paths.extended(place, &path.components)
 }
 
 /// The number of the module that a path before a name aims at in the module with the number `own`: the item of the first of

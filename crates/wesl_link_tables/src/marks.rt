@@ -101,11 +101,11 @@ fn mark_under(
     ensures marked { IfOk result (λ m. MarksUnder numbers.old numbers.new reading.now here path.now imports.now name m found.old found.new) }
     ensures grows { Grows (numbering numbers.old) (numbering numbers.new) }
 {
-    let module = aim(alloc, numbers, reading.own, path, imports)?;
+    let aimed = aim(alloc, numbers, reading.own, path, imports)?;
     let reference = Reference {
-        path: module,
+        path: aimed,
         name,
-        from: reading.scope.asked_at(module, name, here),
+        from: reading.scope.asked_at(aimed, name, here),
     };
     found.references.push(reference)?;
     Ok(Mark::Asks(reference))

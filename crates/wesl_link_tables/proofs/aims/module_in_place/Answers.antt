@@ -7,13 +7,13 @@ use Rattle.wesl_link_tables.proofs.Aimed.{item_module}
 use Rattle.wesl_link_tables.proofs.aims.module_in_place.Goals as goal
 
 pub extended-requires : goal.extended-requires
-extended-requires c = held_below (paths_of c.child.new.self) c.in_ok-module.module.0 _ c.in_ok-module.ensures.held
+extended-requires c = held_below (paths_of c.child.new.self) c.in_ok-place.place.0 _ c.in_ok-place.ensures.held
 
 pub returns-clause-held : goal.returns-clause-held
 returns-clause-held c =
     let nb = numbering c.args.numbers.now in
-    let module_is = path_of (paths_of c.child.new.self) c.in_ok-module.module _ c.in_ok-module.ensures.held in
-    if_ok c.extended.result (λ p h. h ∙ ap Some (item_module nb c.args.import.now c.get-item.result.now _ _ (path_view c.args.path.now) c.get-item.ensures module_is refl)) c.extended.ensures.held
+    let place_is = path_of (paths_of c.child.new.self) c.in_ok-place.place _ c.in_ok-place.ensures.held in
+    if_ok c.extended.result (λ p h. h ∙ ap Some (item_module nb c.args.import.now c.get-item.result.now _ _ (path_view c.args.path.now) c.get-item.ensures place_is refl)) c.extended.ensures.held
 
 pub returns-clause-grows : goal.returns-clause-grows
 returns-clause-grows c = record {
