@@ -1,5 +1,6 @@
 use Rattle.std.proofs.Common.{◌≡◌, ◌∙◌, ap, subst, sym, map}
 use Rattle.wesl_tree_names.specs.Path.{path_view}
+use Rattle.wesl_tree_syntax.specs.View.{imports_tree}
 use Rattle.wesl_tree.specs.Translation.{unit_view}
 use Rattle.wesl_link_tables.specs.Imports.{all_imports}
 use Rattle.wesl_link_tables.specs.Numbering.{Numbering, Grows}
@@ -7,14 +8,11 @@ use Rattle.wesl_link_tables.specs.NumbersView.{names_of, numbering, paths_of}
 use Rattle.wesl_link_tables.specs.Parts.{IsNumberedUnit}
 use Rattle.wesl_link_tables.specs.Spelling.{spelled_imports}
 use Rattle.wesl_link_tables.specs.Walks.{HavePaths, import_view}
-use Rattle.wesl_link_paths.proofs.Lists.{held_below, path_of}
+use Rattle.wesl_link_paths.proofs.Lists.{path_of}
 use Rattle.wesl_link_tables.proofs.Declared.{imports_are}
 use Rattle.wesl_link_tables.proofs.Lists.{longer_itself}
 use Rattle.wesl_link_tables.proofs.Related.{grows_trans, path_later}
 use Rattle.wesl_link_tables.proofs.table.table_of.Goals as goal
-
-pub imports-2-requires : goal.imports-2-requires
-imports-2-requires c = held_below (paths_of c.args.numbers.now.paths) c.args.id.0 (path_view c.args.path.now) c.requires.held
 
 pub returns-in_err-imports-clause-grows : goal.returns-in_err-imports-clause-grows
 returns-in_err-imports-clause-grows c = record { names = longer_itself (names_of c.args.numbers.now.names); paths = c.imports-2.ensures.grows }
@@ -43,7 +41,7 @@ tabled_of-requires-clause-numbered c =
     let own = path_view c.args.path.now in
     let paths = paths_of c.imports-2.new.paths in
     let same : map (import_view paths) c.in_ok-imports.imports.items ≡ all_imports own u.imports.children =
-    c.in_ok-imports.ensures.imports ∙ (ap (λ p. all_imports p _) (path_of (paths_of c.args.numbers.now.paths) c.args.id own c.requires.held) ∙ ap (λ t. all_imports own t.children) c.imports.ensures.imports) in
+    c.in_ok-imports.ensures.imports ∙ (ap (λ p. all_imports p (imports_tree c.imports.result.now).children) (path_of (paths_of c.args.numbers.now.paths) c.args.id own c.requires.held) ∙ ap (λ t. all_imports own t.children) c.imports.ensures.imports) in
     subst (λ js. IsNumberedUnit (numbering c.number_unit.new.numbers) js u c.number_unit.new.numbered) (ap (spelled_imports paths u.names) c.deref.ensures.value ∙ imports_are paths own u c.in_ok-imports.imports.items same) c.in_ok-number_unit.ensures.numbered
 
 pub returns-clause-grows : goal.returns-clause-grows
