@@ -423,8 +423,8 @@ fn add_settled(
 fn mark_unit(
     alloc: Global,
     numbers: &mut Numbers,
-    id: PathId,
     path: &ModulePath,
+    id: PathId,
     unit: &TranslationUnit,
     numbered: &UnitNumbers,
     scope: &Scope,
@@ -498,8 +498,8 @@ impl Parts {
         mark_unit(
             alloc,
             numbers,
-            id,
             path,
+            id,
             unit,
             numbered,
             scope,
