@@ -1,5 +1,5 @@
 -- Paths of modules by their numbers, and nodes that are told by them.
-use Rattle.std.proofs.Common.{◌≡◌, ◌⊎◌, inl, inr, ℕ, zero, suc, ◌<◌, ◌+◌, Some, List, [], ◌∷◌, ◌++◌, map, take, length, get_or, Contains, arith, refl, sym, subst, ap, ◌∙◌}
+use Rattle.std.proofs.Common.{◌≡◌, ◌⊎◌, inl, inr, ℕ, zero, suc, ◌<◌, ◌+◌, ◌-◌, Some, List, [], ◌∷◌, ◌++◌, map, take, length, get_or, Contains, arith, refl, sym, subst, ap, ◌∙◌}
 use Rattle.std.specs.Prelude.{slice_get}
 use Rattle.wesl_tree_names.specs.Path.{Text, Path, path_view}
 use Rattle.wesl_tree_names.specs.declared.path.ModulePath.{ModulePath}
@@ -19,7 +19,7 @@ use Rattle.wesl_link_reasons.specs.Reasons.{Chain, IsHeld, IsReason, task_from}
 use Rattle.wesl_link_reasons.specs.Reasons.Chain.{alone, before}
 use Rattle.wesl_link_reasons.proofs.Holding.{first_held, holds_on}
 use Rattle.wesl_link_paths.proofs.Lists.{get_end, held_below}
-use Rattle.wesl_link_tables.proofs.Lists.{take_next}
+use Rattle.wesl_link_engine.proofs.Lists.{take_at}
 use Rattle.wesl_link_tables.specs.Numbering.{NameAt, PathAt}
 use Rattle.wesl_link_tables.specs.TextsView.{numbering_of_texts as numbering}
 use Rattle.wesl_tree_interner.proofs.Interning.{get_map}
@@ -162,8 +162,8 @@ none_next ms m q none apart n (inl e) is = apart (ap (λ (x : LoadedModule). pat
 none_next ms m q none apart n (inr c) is = none n c is
 
 -- an element of the first ones and the next
-pub take_cases : (root : LoadedModule) (xs : List LoadedModule) (i : ℕ) (m n : LoadedModule) → i < length xs → m ≡ get_or xs i m → Contains (root ∷ take (i + 1) xs) n → (m ≡ n) ⊎ Contains (root ∷ take i xs) n
-take_cases root xs i m n b is c = by (contains_cases root n (take (i + 1) xs) c)
+pub take_cases : (root : LoadedModule) (xs : List LoadedModule) (i : ℕ) (m n : LoadedModule) → slice_get xs i ≡ Some m → Contains (root ∷ take (i + 1) xs) n → (m ≡ n) ⊎ Contains (root ∷ take i xs) n
+take_cases root xs i m n at c = by (contains_cases root n (take (i + 1) xs) c)
   where
     last : (ys : List LoadedModule) → Contains (ys ++ m ∷ []) n → (m ≡ n) ⊎ Contains ys n
     last [] d = elim (contains_cases m n [] d) [ inl e ↦ inl e | inr f ↦ absurd (contains_nil n f) ]
@@ -171,4 +171,11 @@ take_cases root xs i m n b is c = by (contains_cases root n (take (i + 1) xs) c)
 
     by : (root ≡ n) ⊎ Contains (take (i + 1) xs) n → (m ≡ n) ⊎ Contains (root ∷ take i xs) n
     by (inl e) = inr (subst (λ (x : LoadedModule). Contains (root ∷ take i xs) x) e (contains_first root (take i xs)))
-    by (inr d) = elim (last (take i xs) (subst (λ (l : List LoadedModule). Contains l n) (take_next xs i m b is) d)) [ inl e ↦ inl e | inr f ↦ inr (contains_later root n (take i xs) f) ]
+    by (inr d) = elim (last (take i xs) (subst (λ (l : List LoadedModule). Contains l n) (take_at xs i m at) d)) [ inl e ↦ inl e | inr f ↦ inr (contains_later root n (take i xs) f) ]
+
+-- the path of a module behind the root
+pub path_behind : (l : Link) (i : ℕ) (m : LoadedModule) → (i ≡ 0 → ⊥) → slice_get l.others.items (i - 1) ≡ Some m → slice_get (map (λ n. path_view n.path) (all_loaded l)) i ≡ Some (path_view m.path)
+path_behind l zero m apart at = absurd (apart refl)
+path_behind l (suc i) m apart at =
+    let same : suc i - 1 ≡ i = omega arith in
+    get_map (λ (x : LoadedModule). path_view x.path) l.others.items i m (subst (λ k. slice_get l.others.items k ≡ Some m) same at)

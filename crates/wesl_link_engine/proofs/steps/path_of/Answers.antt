@@ -8,3 +8,6 @@ path_at-requires c = let (m, at, named) = c.requires.homes.right c.args.id c.in-
 
 pub returns : goal.returns
 returns c = home_path c.args.link.now c.args.id c.in-Some.index c.path_at.result.now (c.requires.homes.right c.args.id c.in-Some.index c.in-Some.ensures.found) c.path_at.ensures
+
+pub unreachable-requires : goal.unreachable-requires
+unreachable-requires c = let (i, d) = c.requires.homes.all c.args.id c.requires.entered in c.in_default.ensures.none i d
