@@ -3,11 +3,13 @@ use Rattle.std.proofs.Common.{◌≡◌, ℕ, Bool, true, false, List, [], ◌++
 use Rattle.wesl_cond_chains.specs.Evaluation.{Judges, Refuses}
 use Rattle.wesl_cond_chains.specs.Faults.{list_at}
 use Rattle.wesl_cond_chains.specs.FormulaFaults.{IsAmong}
-use Rattle.wesl_cond_chains.specs.Lists.{judged, is_entered, holds_body}
+use Rattle.wesl_cond_chains.specs.Lists.{Element, judged, is_entered, holds_body}
 use Rattle.wesl_cond_features.specs.Features.{Replies}
+use Rattle.wesl_cond_faults.proofs.Alike.{clear_refused, clear_told}
 use Rattle.wesl_cond_faults.proofs.Listing.{stay, joined, own_alone, inside_alone, leaf_alone}
 use Rattle.wesl_cond_faults.specs.Listed.{AreFaults, nothing}
 use Rattle.wesl_cond_chains.specs.Places.{Place, list_places}
+use Rattle.wesl_cond_faults.specs.Places.{told_of_list}
 use Rattle.wesl_cond_faults.specs.Telling.{AddsFaults, AddsAll, IsTold}
 use Rattle.wesl_cond_faults.specs.declared.told.Told.{Told}
 use Rattle.wesl_tree_names.specs.Path.{Text}
@@ -18,16 +20,26 @@ use Rattle.wesl_cond_unit.proofs.Whole.{not_outside}
 -- A list that was judged has no fault, or one.
 module _ (names : List Text) where
   -- a list that was refused has a fault
-  pub refused_some : (fs : List (Place ℕ)) (told : Diagnostic) → Refuses names fs told → fs ≡ [] → ⊥
-  refused_some fs told h none = subst (IsAmong h.0) none h.1
+  has_some : (fs : List (Place ℕ)) (told : Diagnostic) → Refuses names fs told → fs ≡ [] → ⊥
+  has_some fs told h none = subst (IsAmong h.0) none h.1
 
-  pub clear_if : {A : Type 0} (fs : List (Place ℕ)) (r : Result A Diagnostic) (b : Bool) → Judges names fs r → b ≡ is_ok r → b ≡ true → fs ≡ []
-  clear_if fs (Ok x) b h e t = h
-  clear_if fs (Err d) b h e t = absurd (not_outside b t e)
+  pub refused_some : (reply : Replies ℕ) (xs : List (Element ℕ)) (told : Diagnostic) → Refuses names (list_places reply false xs) told → told_of_list reply false xs ≡ [] → ⊥
+  refused_some reply xs told h none = has_some (list_places reply false xs) told h (clear_refused reply false xs none)
 
-  pub some_if : {A : Type 0} (fs : List (Place ℕ)) (r : Result A Diagnostic) (b : Bool) → Judges names fs r → b ≡ is_ok r → b ≡ false → fs ≡ [] → ⊥
-  some_if fs (Ok x) b h e d none = not_outside b e d
-  some_if fs (Err told) b h e d none = refused_some fs told h none
+  clear_judged : {A : Type 0} (fs : List (Place ℕ)) (r : Result A Diagnostic) (b : Bool) → Judges names fs r → b ≡ is_ok r → b ≡ true → fs ≡ []
+  clear_judged fs (Ok x) b h e t = h
+  clear_judged fs (Err d) b h e t = absurd (not_outside b t e)
+
+  some_judged : {A : Type 0} (fs : List (Place ℕ)) (r : Result A Diagnostic) (b : Bool) → Judges names fs r → b ≡ is_ok r → b ≡ false → fs ≡ [] → ⊥
+  some_judged fs (Ok x) b h e d none = not_outside b e d
+  some_judged fs (Err told) b h e d none = has_some fs told h none
+
+  module _ {A : Type 0} (reply : Replies ℕ) (xs : List (Element ℕ)) (r : Result A Diagnostic) (b : Bool) where
+    pub clear_if : Judges names (list_places reply false xs) r → b ≡ is_ok r → b ≡ true → told_of_list reply false xs ≡ []
+    clear_if h e t = clear_told reply false xs (clear_judged (list_places reply false xs) r b h e t)
+
+    pub some_if : Judges names (list_places reply false xs) r → b ≡ is_ok r → b ≡ false → told_of_list reply false xs ≡ [] → ⊥
+    some_if h e d none = some_judged (list_places reply false xs) r b h e d (clear_refused reply false xs none)
 
 module _ (names : List Text) where
   pub adds_none : (a : Told) → AddsFaults names [] a a
@@ -54,11 +66,11 @@ module _ (names : List Text) where
     adds_skip t o a b e h = adds_past t o a b (leaf_alone reply false t.label t.children e) h
 
     -- the list of a node has a fault
-    pub adds_own : (l : Label) (c : Forest) (a b : Told) → is_entered l ≡ true → (list_places reply false (list_at false l c) ≡ [] → ⊥) → AddsFaults names (list_places reply false (list_at false l c)) a b → AddsAll names reply (tree l c end) a b
-    adds_own l c a b en some h = (list_places reply false (list_at false l c), own_alone reply false l c en some, h)
+    pub adds_own : (l : Label) (c : Forest) (a b : Told) → is_entered l ≡ true → (told_of_list reply false (list_at false l c) ≡ [] → ⊥) → AddsFaults names (told_of_list reply false (list_at false l c)) a b → AddsAll names reply (tree l c end) a b
+    adds_own l c a b en some h = (told_of_list reply false (list_at false l c), own_alone reply false l c en some, h)
 
     -- it has none
-    pub adds_inside : (l : Label) (c : Forest) (a b : Told) → is_entered l ≡ true → list_places reply false (list_at false l c) ≡ [] → holds_body false l ≡ false → AddsAll names reply (judged (stay reply) false l c) a b → AddsAll names reply (tree l c end) a b
+    pub adds_inside : (l : Label) (c : Forest) (a b : Told) → is_entered l ≡ true → told_of_list reply false (list_at false l c) ≡ [] → holds_body false l ≡ false → AddsAll names reply (judged (stay reply) false l c) a b → AddsAll names reply (tree l c end) a b
     adds_inside l c a b en none apart h =
         (h.0, inside_alone reply false l c h.0 en none (subst (λ held. AreFaults reply held (judged (stay reply) false l c) h.0) (sym apart) h.1), h.2)
 

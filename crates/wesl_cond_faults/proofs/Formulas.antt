@@ -16,8 +16,10 @@ use Rattle.wesl_cond_chains.specs.Lists.{Element, elements}
 use Rattle.wesl_cond_chains.specs.Nodes.{as_element, attributes_forest, condition_of_attribute, is_several}
 use Rattle.wesl_cond_features.specs.Features.{Replies}
 use Rattle.wesl_cond_faults.proofs.Adding.{adds_none, adds_both, adds_same}
-use Rattle.wesl_cond_chains.proofs.Placed.{list_joined, through_joined}
-use Rattle.wesl_cond_chains.specs.Places.{Place, found_at, formula_places, condition_places, span_of, node_places, opened_after, opened_through, list_places}
+use Rattle.wesl_cond_chains.proofs.Placed.{through_joined}
+use Rattle.wesl_cond_faults.proofs.Alike.{told_joined}
+use Rattle.wesl_cond_chains.specs.Places.{Place, found_at, formula_places, condition_places, span_of, opened_after, opened_through}
+use Rattle.wesl_cond_faults.specs.Places.{condition_spans, node_span, second_or_only, span_or, told_of_node, told_of_list}
 use Rattle.wesl_cond_faults.specs.Telling.{AddsFaults}
 use Rattle.wesl_cond_faults.specs.declared.told.Told.{Told}
 use Rattle.wesl_tree_base.specs.declared.span.Span.{Span}
@@ -74,17 +76,20 @@ module _ (names : List Text) (reply : Replies ℕ) where
 
   -- One node.
   module _ (opened : Bool) (t : Tree) where
-    pub void_adds : (a : Told) → is_void t.label t.children ≡ true → (closes : Bool) → AddsFaults names (node_places reply opened (as_element closes t)) a a
+    pub void_adds : (a : Told) → is_void t.label t.children ≡ true → (closes : Bool) → AddsFaults names (told_of_node reply opened (as_element closes t)) a a
     void_adds a e closes = rw e (adds_none names a)
 
     pub void_opened : is_void t.label t.children ≡ true → (closes : Bool) → opened ≡ opened_after opened (as_element closes t)
     void_opened e closes = rw e refl
 
-    pub node_adds : (span : Span) (f : Forest) (a b c : Told) → is_void t.label t.children ≡ false → span ≡ span_of t.label → f ≡ attributes_in (before t end) → AddsFaults names (map (found_at span) (place_faults opened (conditions f))) a b
-        → AddsFaults names (flat_map (condition_places reply) (conditions f)) b c → (closes : Bool) → AddsFaults names (node_places reply opened (as_element closes t)) a c
-    node_adds span f a b c e at is p q closes =
+    told_span : (own span : Span) (f : Forest) → own ≡ span_of t.label → span ≡ span_or own (second_or_only (condition_spans f)) → f ≡ attributes_in (before t end) → span ≡ node_span (as_element false t)
+    told_span own span f at told is = told ∙ ap (λ o. span_or o (second_or_only (condition_spans f))) at ∙ ap (λ g. span_or (span_of t.label) (second_or_only (condition_spans g))) is
+
+    pub node_adds : (own span : Span) (f : Forest) (a b c : Told) → is_void t.label t.children ≡ false → own ≡ span_of t.label → span ≡ span_or own (second_or_only (condition_spans f)) → f ≡ attributes_in (before t end) → AddsFaults names (map (found_at span) (place_faults opened (conditions f))) a b
+        → AddsFaults names (flat_map (condition_places reply) (conditions f)) b c → (closes : Bool) → AddsFaults names (told_of_node reply opened (as_element closes t)) a c
+    node_adds own span f a b c e at told is p q closes =
         rw e (
-        subst (λ s. AddsFaults names (map (found_at s) (place_faults opened (conditions (attributes_in (before t end)))) ++ flat_map (condition_places reply) (conditions (attributes_in (before t end)))) a c) at
+        subst (λ s. AddsFaults names (map (found_at s) (place_faults opened (conditions (attributes_in (before t end)))) ++ flat_map (condition_places reply) (conditions (attributes_in (before t end)))) a c) (told_span own span f at told is)
         (subst (λ g. AddsFaults names (map (found_at span) (place_faults opened (conditions g)) ++ flat_map (condition_places reply) (conditions g)) a c) is
         (adds_both names (map (found_at span) (place_faults opened (conditions f))) (flat_map (condition_places reply) (conditions f)) a b c p q)))
 
@@ -97,7 +102,7 @@ module _ (names : List Text) (reply : Replies ℕ) where
     nodes ys = map (λ x. as_element false (view x)) ys
 
     abbrev pub IsBegun : Told → ℕ → Bool → Told → Type 0
-    IsBegun a i opened b = AddsFaults names (list_places reply false (nodes (take i xs))) a b × (opened ≡ opened_through false (nodes (take i xs)))
+    IsBegun a i opened b = AddsFaults names (told_of_list reply false (nodes (take i xs))) a b × (opened ≡ opened_through false (nodes (take i xs)))
 
     pub begun_at_start : (a : Told) (opened : Bool) → opened ≡ false → IsBegun a 0 opened a
     begun_at_start a opened e = (adds_none names a, e)
@@ -105,15 +110,15 @@ module _ (names : List Text) (reply : Replies ℕ) where
     one_more : (i : ℕ) (x : A) → i < length xs → x ≡ get_or xs i x → nodes (take (i + 1) xs) ≡ nodes (take i xs) ++ as_element false (view x) ∷ []
     one_more i x lt is = map_more (λ y. as_element false (view y)) xs i x lt ∙ ap (λ y. nodes (take i xs) ++ as_element false (view y) ∷ []) (sym is)
 
-    pub begun_next : (i : ℕ) (x : A) (opened after : Bool) (a b c : Told) → i < length xs → x ≡ get_or xs i x → IsBegun a i opened b → ((closes : Bool) → AddsFaults names (node_places reply opened (as_element closes (view x))) b c)
+    pub begun_next : (i : ℕ) (x : A) (opened after : Bool) (a b c : Told) → i < length xs → x ≡ get_or xs i x → IsBegun a i opened b → ((closes : Bool) → AddsFaults names (told_of_node reply opened (as_element closes (view x))) b c)
         → ((closes : Bool) → after ≡ opened_after opened (as_element closes (view x))) → IsBegun a (i + 1) after c
     begun_next i x opened after a b c lt is h told opens_on =
         let front = nodes (take i xs) in
         let e = as_element false (view x) in
         let o = opened_through false front in (
-          adds_same names (list_places reply false front ++ node_places reply opened e) (list_places reply false (nodes (take (i + 1) xs))) a c
-              (sym (ap (list_places reply false) (one_more i x lt is) ∙ list_joined reply false front (e ∷ []) ∙ ap (λ r. list_places reply false front ++ r) (append-nil (node_places reply o e)) ∙ ap (λ b. list_places reply false front ++ node_places reply b e) (sym h.1)))
-              (adds_both names (list_places reply false front) (node_places reply opened e) a b c h.0 (told false)),
+          adds_same names (told_of_list reply false front ++ told_of_node reply opened e) (told_of_list reply false (nodes (take (i + 1) xs))) a c
+              (sym (ap (told_of_list reply false) (one_more i x lt is) ∙ told_joined reply false front (e ∷ []) ∙ ap (λ r. told_of_list reply false front ++ r) (append-nil (told_of_node reply o e)) ∙ ap (λ b. told_of_list reply false front ++ told_of_node reply b e) (sym h.1)))
+              (adds_both names (told_of_list reply false front) (told_of_node reply opened e) a b c h.0 (told false)),
           opens_on false ∙ ap (λ b. opened_after b e) h.1 ∙ sym (ap (opened_through false) (one_more i x lt is) ∙ through_joined false front (e ∷ [])),
         )
 
@@ -123,19 +128,19 @@ module _ (names : List Text) (reply : Replies ℕ) where
     all_nodes : (i : ℕ) → length xs ≤ i → nodes (take i xs) ≡ whole
     all_nodes i le = ap nodes (all_taken xs i le) ∙ elements_as false view xs
 
-    pub begun_all : (i : ℕ) (opened : Bool) (a b : Told) → length xs ≤ i → IsBegun a i opened b → AddsFaults names (list_places reply false whole) a b
-    begun_all i opened a b le h = adds_same names _ _ a b (ap (list_places reply false) (all_nodes i le)) h.0
+    pub begun_all : (i : ℕ) (opened : Bool) (a b : Told) → length xs ≤ i → IsBegun a i opened b → AddsFaults names (told_of_list reply false whole) a b
+    begun_all i opened a b le h = adds_same names _ _ a b (ap (told_of_list reply false) (all_nodes i le)) h.0
 
     pub begun_opened : (i : ℕ) (opened : Bool) (a b : Told) → length xs ≤ i → IsBegun a i opened b → opened ≡ opened_through false whole
     begun_opened i opened a b le h = h.1 ∙ ap (opened_through false) (all_nodes i le)
 
     -- a list with what closes it
-    pub with_last : (t : Tree) (opened : Bool) (a b c : Told) → AddsFaults names (list_places reply false whole) a b → opened ≡ opened_through false whole → AddsFaults names (node_places reply opened (as_element true t)) b c → AddsFaults names (list_places reply false (whole ++ elements true (before t end))) a c
+    pub with_last : (t : Tree) (opened : Bool) (a b c : Told) → AddsFaults names (told_of_list reply false whole) a b → opened ≡ opened_through false whole → AddsFaults names (told_of_node reply opened (as_element true t)) b c → AddsFaults names (told_of_list reply false (whole ++ elements true (before t end))) a c
     with_last t opened a b c p e q =
         let x = as_element true t in
-        adds_same names (list_places reply false whole ++ node_places reply opened x) (list_places reply false (whole ++ x ∷ [])) a c
-        (sym (list_joined reply false whole (x ∷ []) ∙ ap (λ r. list_places reply false whole ++ r) (append-nil (node_places reply (opened_through false whole) x)) ∙ ap (λ b. list_places reply false whole ++ node_places reply b x) (sym e)))
-        (adds_both names (list_places reply false whole) (node_places reply opened x) a b c p q)
+        adds_same names (told_of_list reply false whole ++ told_of_node reply opened x) (told_of_list reply false (whole ++ x ∷ [])) a c
+        (sym (told_joined reply false whole (x ∷ []) ∙ ap (λ r. told_of_list reply false whole ++ r) (append-nil (told_of_node reply (opened_through false whole) x)) ∙ ap (λ b. told_of_list reply false whole ++ told_of_node reply b x) (sym e)))
+        (adds_both names (told_of_list reply false whole) (told_of_node reply opened x) a b c p q)
 
-    pub without_last : (a b : Told) → AddsFaults names (list_places reply false whole) a b → AddsFaults names (list_places reply false (whole ++ [])) a b
-    without_last a b p = adds_same names _ _ a b (ap (list_places reply false) (sym (append-nil whole))) p
+    pub without_last : (a b : Told) → AddsFaults names (told_of_list reply false whole) a b → AddsFaults names (told_of_list reply false (whole ++ [])) a b
+    without_last a b p = adds_same names _ _ a b (ap (told_of_list reply false) (sym (append-nil whole))) p

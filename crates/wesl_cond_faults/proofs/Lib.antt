@@ -1,7 +1,9 @@
 pub mod Adding
+pub mod Alike
 pub mod Formulas
 pub mod Listing
 pub mod Loops
+pub mod Spans
 pub mod Standing
 pub mod Telling
 pub mod Views

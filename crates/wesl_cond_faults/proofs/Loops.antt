@@ -10,7 +10,8 @@ use Rattle.wesl_cond_faults.proofs.Adding.{adds_both, adds_in, adds_none, adds_n
 use Rattle.wesl_cond_faults.proofs.Listing.{stay, held_body, held_option, inside_alone}
 use Rattle.wesl_cond_faults.proofs.Walking.{closing_leaf}
 use Rattle.wesl_cond_faults.specs.Listed.{AreFaults, nothing, apart}
-use Rattle.wesl_cond_chains.specs.Places.{Place, list_places}
+use Rattle.wesl_cond_chains.specs.Places.{Place}
+use Rattle.wesl_cond_faults.specs.Places.{told_of_list}
 use Rattle.wesl_cond_faults.specs.Telling.{AddsFaults, AddsAll}
 use Rattle.wesl_cond_faults.specs.declared.told.Told.{Told}
 use Rattle.wesl_tree_names.specs.Path.{Text}
@@ -60,21 +61,21 @@ module _ (names : List Text) (reply : Replies ℕ) where
     in_rebuilt : (kept : List (Element ℕ)) (ps qs : List (Place ℕ)) → AreFaults reply false (back false kept) ps → AreFaults reply false (back true kept) qs → AreFaults reply true (rebuilt kept) (ps ++ qs)
     in_rebuilt kept ps qs p q = apart refl (held_body reply (back false kept) (option_of (back true kept) end) (attributes_tree y).label (attributes_tree y).children ps qs refl p (held_option reply (back true kept) qs q))
 
-    faults_held : (ps qs : List (Place ℕ)) → list_places reply false all ≡ [] → AreFaults reply false (alone (stay reply) (forest_of ts)) ps → AreFaults reply false (closing (known reply) (forest_of ts) (optional_forest last o)) qs → AreFaults reply false (tree l (held o) end) (ps ++ qs)
+    faults_held : (ps qs : List (Place ℕ)) → told_of_list reply false all ≡ [] → AreFaults reply false (alone (stay reply) (forest_of ts)) ps → AreFaults reply false (closing (known reply) (forest_of ts) (optional_forest last o)) qs → AreFaults reply false (tree l (held o) end) (ps ++ qs)
     faults_held ps qs none p q =
-        inside_alone reply false l (held o) (ps ++ qs) entered (ap (list_places reply false) (its_list o) ∙ none)
+        inside_alone reply false l (held o) (ps ++ qs) entered (ap (told_of_list reply false) (its_list o) ∙ none)
         (subst (λ h. AreFaults reply h (judged (stay reply) false l (held o)) (ps ++ qs)) (sym holds) (subst (λ t. AreFaults reply true t (ps ++ qs)) (sym (what_stays o))
         (in_rebuilt (stay reply all) ps qs (subst (λ t. AreFaults reply false t ps) (sym (open_front (known reply) (forest_of ts) (optional_forest last o))) p) q)))
 
     as_held : tree l (forest_of (attributes_tree x ∷ compound_view body ∷ optional last o ∷ [])) end ≡ tree l (held o) end
     as_held = ap (λ t. tree l (forest_of (attributes_tree x ∷ t ∷ optional last o ∷ [])) end) (view_compound body)
 
-    pub closed_refused : (a b : Told) → (list_places reply false all ≡ [] → ⊥) → AddsFaults names (list_places reply false all) a b → AddsAll names reply (tree l (forest_of (attributes_tree x ∷ compound_view body ∷ optional last o ∷ [])) end) a b
+    pub closed_refused : (a b : Told) → (told_of_list reply false all ≡ [] → ⊥) → AddsFaults names (told_of_list reply false all) a b → AddsAll names reply (tree l (forest_of (attributes_tree x ∷ compound_view body ∷ optional last o ∷ [])) end) a b
     closed_refused a b some h =
         adds_in names reply _ _ a b (sym as_held)
-        (adds_own names reply l (held o) a b entered (subst (λ xs. list_places reply false xs ≡ [] → ⊥) (sym (its_list o)) some) (subst (λ xs. AddsFaults names (list_places reply false xs) a b) (sym (its_list o)) h))
+        (adds_own names reply l (held o) a b entered (subst (λ xs. told_of_list reply false xs ≡ [] → ⊥) (sym (its_list o)) some) (subst (λ xs. AddsFaults names (told_of_list reply false xs) a b) (sym (its_list o)) h))
 
-    pub closed_told : (a b c : Told) → list_places reply false all ≡ [] → AddsAll names reply (alone (stay reply) (forest_of ts)) a b → AddsAll names reply (closing (known reply) (forest_of ts) (optional_forest last o)) b c
+    pub closed_told : (a b c : Told) → told_of_list reply false all ≡ [] → AddsAll names reply (alone (stay reply) (forest_of ts)) a b → AddsAll names reply (closing (known reply) (forest_of ts) (optional_forest last o)) b c
         → AddsAll names reply (tree l (forest_of (attributes_tree x ∷ compound_view body ∷ optional last o ∷ [])) end) a c
     closed_told a b c none p q = adds_in names reply _ _ a c (sym as_held) (p.0 ++ q.0, faults_held p.0 q.0 none p.1 q.1, adds_both names p.0 q.0 a b c p.2 q.2)
 
@@ -85,10 +86,10 @@ module _ (names : List Text) (reply : Replies ℕ) where
     as_loop : before (statement_view s) end ≡ tree (kind loop) (forest_of (attributes_tree x ∷ compound_view body ∷ optional continuing_view o ∷ [])) end
     as_loop = ap (λ t. before t end) (ap statement_view is ∙ view_loop x body o)
 
-    pub loop_refused : (a b : Told) → (list_places reply false loop_list ≡ [] → ⊥) → AddsFaults names (list_places reply false loop_list) a b → AddsAll names reply (before (statement_view s) end) a b
+    pub loop_refused : (a b : Told) → (told_of_list reply false loop_list ≡ [] → ⊥) → AddsFaults names (told_of_list reply false loop_list) a b → AddsAll names reply (before (statement_view s) end) a b
     loop_refused a b some h = adds_in names reply _ _ a b (sym as_loop) (closed_refused continuing_view (kind loop) refl refl x body o a b some h)
 
-    pub loop_told : (last : Forest) (a b c : Told) → list_places reply false loop_list ≡ [] → AddsAll names reply (alone (stay reply) (forest_of (trees_in body))) a b → closing (known reply) (forest_of (trees_in body)) (optional_forest continuing_view o) ≡ last → AddsAll names reply last b c
+    pub loop_told : (last : Forest) (a b c : Told) → told_of_list reply false loop_list ≡ [] → AddsAll names reply (alone (stay reply) (forest_of (trees_in body))) a b → closing (known reply) (forest_of (trees_in body)) (optional_forest continuing_view o) ≡ last → AddsAll names reply last b c
         → AddsAll names reply (before (statement_view s) end) a c
     loop_told last a b c none p is q = adds_in names reply _ _ a c (sym as_loop) (closed_told continuing_view (kind loop) refl refl x body o a b c none p (adds_in names reply last _ b c (sym is) q))
 
@@ -123,10 +124,10 @@ module _ (names : List Text) (reply : Replies ℕ) where
     as_block : before (continuing_view c) end ≡ tree (kind continuing) (forest_of (attributes_tree (out-ContinuingStatement c).attributes ∷ compound_view block_body ∷ optional break_if_view block_break ∷ [])) end
     as_block = ap (λ t. before t end) (view_continuing c)
 
-    pub block_refused : (list_places reply false block_list ≡ [] → ⊥) → AddsFaults names (list_places reply false block_list) a b → AddsAll names reply (before (continuing_view c) end) a b
+    pub block_refused : (told_of_list reply false block_list ≡ [] → ⊥) → AddsFaults names (told_of_list reply false block_list) a b → AddsAll names reply (before (continuing_view c) end) a b
     block_refused some h = adds_in names reply _ _ a b (sym as_block) (closed_refused break_if_view (kind continuing) refl refl (out-ContinuingStatement c).attributes block_body block_break a b some h)
 
-    pub block_told : list_places reply false block_list ≡ [] → AddsAll names reply (alone (stay reply) (forest_of (trees_in block_body))) a b → AddsAll names reply (before (continuing_view c) end) a b
+    pub block_told : told_of_list reply false block_list ≡ [] → AddsAll names reply (alone (stay reply) (forest_of (trees_in block_body))) a b → AddsAll names reply (before (continuing_view c) end) a b
     block_told none h =
         adds_in names reply _ _ a b (sym as_block)
         (closed_told break_if_view (kind continuing) refl refl (out-ContinuingStatement c).attributes block_body block_break a b b none h (break_told (forest_of (trees_in block_body))))

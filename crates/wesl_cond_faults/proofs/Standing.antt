@@ -6,7 +6,8 @@ use Rattle.wesl_cond_chains.specs.Lists.{is_entered, holds_body, judged}
 use Rattle.wesl_cond_features.specs.Features.{Replies}
 use Rattle.wesl_cond_faults.proofs.Listing.{stay, parts}
 use Rattle.wesl_cond_faults.specs.Listed.{AreFaults, nothing, own, inside, apart, ListsAllThatStand, IsOneList}
-use Rattle.wesl_cond_chains.specs.Places.{Place, StandsAt, list_places}
+use Rattle.wesl_cond_chains.specs.Places.{Place}
+use Rattle.wesl_cond_faults.specs.Places.{StandsTold, told_of_list}
 use Rattle.wesl_tree_syntax.specs.Tree.{ForestOf, end, tree}
 
 module _ {I : Type 0} where
@@ -29,10 +30,10 @@ module _ {I : Type 0} where
     abbrev Standing : Bool → ForestOf I → Place I → Type 0
     Standing held end f = ⊥
     Standing held (tree l c o) f =
-        ((is_entered l ≡ true) × IsAmong f (list_places reply false (list_at held l c)))
-        ⊎ (((is_entered l ≡ true) × (list_places reply false (list_at held l c) ≡ []) × StandsAt reply (holds_body held l) (judged (stay reply) held l c) f) ⊎ StandsAt reply held o f)
+        ((is_entered l ≡ true) × IsAmong f (told_of_list reply false (list_at held l c)))
+        ⊎ (((is_entered l ≡ true) × (told_of_list reply false (list_at held l c) ≡ []) × StandsTold reply (holds_body held l) (judged (stay reply) held l c) f) ⊎ StandsTold reply held o f)
 
-    standing : (held : Bool) (t : ForestOf I) (f : Place I) → StandsAt reply held t f → Standing held t f
+    standing : (held : Bool) (t : ForestOf I) (f : Place I) → StandsTold reply held t f → Standing held t f
     standing held t f (here e h) = inl (e, h)
     standing held t f (stands_inside e n s) = inr (inl (e, n, s))
     standing held t f (beside s) = inr (inr s)
@@ -40,9 +41,9 @@ module _ {I : Type 0} where
     both : (b : Bool) → b ≡ true → b ≡ false → ⊥
     both b e d = cc
 
-    pub each_is_among : (held : Bool) (t : ForestOf I) (ps : List (Place I)) → AreFaults reply held t ps → (f : Place I) → StandsAt reply held t f → IsAmong f ps
+    pub each_is_among : (held : Bool) (t : ForestOf I) (ps : List (Place I)) → AreFaults reply held t ps → (f : Place I) → StandsTold reply held t f → IsAmong f ps
     each_is_among held t ps nothing f s = absurd (standing held end f s)
-    each_is_among held t ps (own {l = l} {children = c} {others = o} {rest = rest} e ne more) f s = among_both f (list_places reply false (list_at held l c)) rest (elim (standing held (tree l c o) f s) [
+    each_is_among held t ps (own {l = l} {children = c} {others = o} {rest = rest} e ne more) f s = among_both f (told_of_list reply false (list_at held l c)) rest (elim (standing held (tree l c o) f s) [
       | inl h ↦ inl h.1
       | inr (inl h) ↦ absurd (ne h.1)
       | inr (inr h) ↦ inr (each_is_among held o rest more f h)
@@ -58,9 +59,9 @@ module _ {I : Type 0} where
       | inr (inr h) ↦ each_is_among held o ps more f h
     ]
 
-    pub each_stands : (held : Bool) (t : ForestOf I) (ps : List (Place I)) → AreFaults reply held t ps → (f : Place I) → IsAmong f ps → StandsAt reply held t f
+    pub each_stands : (held : Bool) (t : ForestOf I) (ps : List (Place I)) → AreFaults reply held t ps → (f : Place I) → IsAmong f ps → StandsTold reply held t f
     each_stands held t ps nothing f h = absurd h
-    each_stands held t ps (own {l = l} {children = c} {others = o} {rest = rest} e ne more) f h = elim (among_either f (list_places reply false (list_at held l c)) rest h) [
+    each_stands held t ps (own {l = l} {children = c} {others = o} {rest = rest} e ne more) f h = elim (among_either f (told_of_list reply false (list_at held l c)) rest h) [
       | inl a ↦ here e a
       | inr b ↦ beside (each_stands held o rest more f b)
     ]
@@ -74,7 +75,7 @@ module _ {I : Type 0} where
     pub one_list : (held : Bool) (t : ForestOf I) (ps qs : List (Place I)) → AreFaults reply held t ps → AreFaults reply held t qs → ps ≡ qs
     one_list held t ps qs nothing h = sym (parts reply held end qs h)
     one_list held t ps qs (own {l = l} {children = c} {others = o} {rest = rest} e ne more) h = elim (parts reply held (tree l c o) qs h) [
-      | inl k ↦ ap (λ r. list_places reply false (list_at held l c) ++ r) (one_list held o rest k.2 more k.3) ∙ sym k.4
+      | inl k ↦ ap (λ r. told_of_list reply false (list_at held l c) ++ r) (one_list held o rest k.2 more k.3) ∙ sym k.4
       | inr (inl k) ↦ absurd (ne k.1)
       | inr (inr k) ↦ absurd (both (is_entered l) e k.0)
     ]

@@ -3,6 +3,7 @@ use Rattle.std.proofs.Common.{◌≡◌, ◌↔◌, ℕ, true, false, List, [], 
 use Rattle.wesl_cond_chains.specs.FormulaFaults.{Fault, IsAmong, Tells}
 use Rattle.wesl_cond_chains.specs.Laws.{IsFaultless}
 use Rattle.wesl_cond_features.specs.Features.{Replies, by_number}
+use Rattle.wesl_cond_faults.proofs.Alike.{stands_refused, stands_told}
 use Rattle.wesl_cond_faults.proofs.Standing.{each_is_among, each_stands}
 use Rattle.wesl_cond_chains.proofs.Located.{clear_without, stands_without}
 use Rattle.wesl_cond_chains.proofs.Refused.{placed_told}
@@ -56,6 +57,6 @@ pub none_told : (reply : Replies Text) (u : UnitView) (ds : List Diagnostic) →
 none_told reply u ds h =
     let r = by_number u.names reply in
     let t = forest_of_unit (trees_of u) in (
-      λ e. clear_without r t (λ p at. subst (IsAmong p) (none_each u.names h.0 ds h.2 e) (each_is_among r false t h.0 h.1 p at)),
-      λ clear. each_none u.names h.0 ds h.2 (none_if_none h.0 (λ p among. clear p.fault (stands_without r false t p (each_stands r false t h.0 h.1 p among)))),
+      λ e. clear_without r t (λ p at. let k = stands_told r false t p at in subst (IsAmong k.0) (none_each u.names h.0 ds h.2 e) (each_is_among r false t h.0 h.1 k.0 k.1)),
+      λ clear. each_none u.names h.0 ds h.2 (none_if_none h.0 (λ q among. let k = stands_refused r false t q (each_stands r false t h.0 h.1 q among) in clear k.0.fault (stands_without r false t k.0 k.1))),
     )

@@ -11,7 +11,8 @@ use Rattle.wesl_cond_faults.proofs.Adding.{adds_nothing, adds_then, adds_past, a
 use Rattle.wesl_cond_faults.proofs.Listing.{stay, inside_alone, leaf_alone, own_alone}
 use Rattle.wesl_cond_faults.proofs.Walking.{no_list_in, no_list_stays}
 use Rattle.wesl_cond_faults.specs.Listed.{AreFaults, nothing}
-use Rattle.wesl_cond_chains.specs.Places.{Place, list_places}
+use Rattle.wesl_cond_chains.specs.Places.{Place}
+use Rattle.wesl_cond_faults.specs.Places.{told_of_list}
 use Rattle.wesl_cond_faults.specs.Telling.{AddsFaults, AddsAll}
 use Rattle.wesl_cond_faults.specs.declared.told.Told.{Told}
 use Rattle.wesl_tree_names.specs.Path.{Text}
@@ -69,15 +70,15 @@ module _ (names : List Text) (reply : Replies ℕ) where
       abbrev trees : Forest
       trees = forest_of (map view xs)
 
-      leaves_by : (ps : List (Place ℕ)) → is_entered l ≡ true → list_places reply false (list_at false l trees) ≡ ps → AreFaults reply (holds_body false l) (judged (stay reply) false l trees) [] → AreFaults reply false (tree l trees end) ps
+      leaves_by : (ps : List (Place ℕ)) → is_entered l ≡ true → told_of_list reply false (list_at false l trees) ≡ ps → AreFaults reply (holds_body false l) (judged (stay reply) false l trees) [] → AreFaults reply false (tree l trees end) ps
       leaves_by [] en is clear = inside_alone reply false l trees [] en is clear
       leaves_by (p ∷ ps) en is clear = subst (AreFaults reply false (tree l trees end)) is (own_alone reply false l trees en (λ none. some_one p ps (sym is ∙ none)))
 
       leaves_told : is_entered l ≡ true → list_at false l trees ≡ elements false trees → holds_body false l ≡ false → judged (stay reply) false l trees ≡ alone (stay reply) trees
-          → AddsFaults names (list_places reply false (elements false trees)) a b → AddsAll names reply (tree l trees end) a b
+          → AddsFaults names (told_of_list reply false (elements false trees)) a b → AddsAll names reply (tree l trees end) a b
       leaves_told en its apart all h = (
-        list_places reply false (elements false trees),
-        leaves_by (list_places reply false (elements false trees)) en (ap (list_places reply false) its)
+        told_of_list reply false (elements false trees),
+        leaves_by (told_of_list reply false (elements false trees)) en (ap (told_of_list reply false) its)
             (subst (λ held. AreFaults reply held (judged (stay reply) false l trees) []) (sym apart) (subst (λ t. AreFaults reply false t []) (sym all) (no_list_stays reply view leaf xs))),
         h,
       )
@@ -121,10 +122,10 @@ module _ (names : List Text) (reply : Replies ℕ) where
         (adds_skip names reply (attributes_tree d.attributes) (forest_of (listed selector_view list d.case_selectors ∷ compound_view d.body ∷ [])) a b refl
         (adds_past names reply (listed selector_view list d.case_selectors) (before (compound_view d.body) end) a b (clear_list selector_view leaf_selector d.case_selectors) h)))
 
-    pub clauses_told : (cs : List SwitchClause) → list_places reply false (elements false (forest_of (map clause_view cs))) ≡ [] → AddsAll names reply (alone (stay reply) (forest_of (map clause_view cs))) a b → Good (branch clauses (map clause_view cs))
+    pub clauses_told : (cs : List SwitchClause) → told_of_list reply false (elements false (forest_of (map clause_view cs))) ≡ [] → AddsAll names reply (alone (stay reply) (forest_of (map clause_view cs))) a b → Good (branch clauses (map clause_view cs))
     clauses_told cs clear h = adds_inside names reply (kind clauses) (forest_of (map clause_view cs)) a b refl clear refl h
 
-    pub clauses_refused : (cs : List SwitchClause) → (list_places reply false (elements false (forest_of (map clause_view cs))) ≡ [] → ⊥) → AddsFaults names (list_places reply false (elements false (forest_of (map clause_view cs)))) a b → Good (branch clauses (map clause_view cs))
+    pub clauses_refused : (cs : List SwitchClause) → (told_of_list reply false (elements false (forest_of (map clause_view cs))) ≡ [] → ⊥) → AddsFaults names (told_of_list reply false (elements false (forest_of (map clause_view cs)))) a b → Good (branch clauses (map clause_view cs))
     clauses_refused cs some h = adds_own names reply (kind clauses) (forest_of (map clause_view cs)) a b refl some h
 
     -- statements
@@ -159,36 +160,36 @@ module _ (names : List Text) (reply : Replies ℕ) where
         (adds_inside names reply (kind compound) (forest_of (attributes_tree d.attributes ∷ branch statements (map statement_tree d.statements.items) ∷ [])) a b refl refl refl
         (adds_skip names reply (attributes_tree d.attributes) (before (branch statements (map statement_tree d.statements.items)) end) a b refl h))
 
-    pub body_told : (x : CompoundStatement) → list_places reply false (elements false (body_list x)) ≡ [] → AddsAll names reply (alone (stay reply) (body_list x)) a b → Good (compound_view x)
+    pub body_told : (x : CompoundStatement) → told_of_list reply false (elements false (body_list x)) ≡ [] → AddsAll names reply (alone (stay reply) (body_list x)) a b → Good (compound_view x)
     body_told x clear h = in_body x (adds_inside names reply (kind statements) (body_list x) a b refl clear refl h)
 
-    pub body_refused : (x : CompoundStatement) → (list_places reply false (elements false (body_list x)) ≡ [] → ⊥) → AddsFaults names (list_places reply false (elements false (body_list x))) a b → Good (compound_view x)
+    pub body_refused : (x : CompoundStatement) → (told_of_list reply false (elements false (body_list x)) ≡ [] → ⊥) → AddsFaults names (told_of_list reply false (elements false (body_list x))) a b → Good (compound_view x)
     body_refused x some h = in_body x (adds_own names reply (kind statements) (body_list x) a b refl some h)
 
     -- declarations
-    pub imports_told : (xs : List (Spanned ImportStatement)) → AddsFaults names (list_places reply false (elements false (forest_of (map (placed import_view import_node) xs)))) a b → Good (branch imports (map (placed import_view import_node) xs))
+    pub imports_told : (xs : List (Spanned ImportStatement)) → AddsFaults names (told_of_list reply false (elements false (forest_of (map (placed import_view import_node) xs)))) a b → Good (branch imports (map (placed import_view import_node) xs))
     imports_told xs h = leaves_told (placed import_view import_node) (λ x. refl) (kind imports) xs refl refl refl refl h
 
-    pub directives_told : (xs : List (Spanned GlobalDirective)) → AddsFaults names (list_places reply false (elements false (forest_of (map (placed directive_view directive_node) xs)))) a b → Good (branch directive_list (map (placed directive_view directive_node) xs))
+    pub directives_told : (xs : List (Spanned GlobalDirective)) → AddsFaults names (told_of_list reply false (elements false (forest_of (map (placed directive_view directive_node) xs)))) a b → Good (branch directive_list (map (placed directive_view directive_node) xs))
     directives_told xs h = leaves_told (placed directive_view directive_node) (λ x. refl) (kind directive_list) xs refl refl refl refl h
 
-    members_told : (xs : List (Spanned StructMember)) → AddsFaults names (list_places reply false (elements false (forest_of (map (placed member_view member_node) xs)))) a b → Good (branch members (map (placed member_view member_node) xs))
+    members_told : (xs : List (Spanned StructMember)) → AddsFaults names (told_of_list reply false (elements false (forest_of (map (placed member_view member_node) xs)))) a b → Good (branch members (map (placed member_view member_node) xs))
     members_told xs h = leaves_told (placed member_view member_node) (λ x. refl) (kind members) xs refl refl refl refl h
 
-    pub parameters_told : (xs : List FormalParameter) → AddsFaults names (list_places reply false (elements false (forest_of (map parameter_view xs)))) a b → Good (branch parameters (map parameter_view xs))
+    pub parameters_told : (xs : List FormalParameter) → AddsFaults names (told_of_list reply false (elements false (forest_of (map parameter_view xs)))) a b → Good (branch parameters (map parameter_view xs))
     parameters_told xs h = leaves_told parameter_view (λ x. refl) (kind parameters) xs refl refl refl refl h
 
-    pub struct_told : (s : Struct) → AddsFaults names (list_places reply false (elements false (forest_of (map (placed member_view member_node) s.members.items)))) a b → Good (struct_view s)
+    pub struct_told : (s : Struct) → AddsFaults names (told_of_list reply false (elements false (forest_of (map (placed member_view member_node) s.members.items)))) a b → Good (struct_view s)
     struct_told s h =
         let m = listed (placed member_view member_node) members s.members in
         adds_inside names reply (kind struct) (forest_of (attributes_tree s.attributes ∷ ident_tree binder s.ident ∷ m ∷ [])) a b refl refl refl
         (adds_skip names reply (attributes_tree s.attributes) (forest_of (ident_tree binder s.ident ∷ m ∷ [])) a b refl (adds_skip names reply (ident_tree binder s.ident) (before m end) a b refl (members_told s.members.items h)))
 
-    pub declarations_told : (xs : List (Spanned GlobalDeclaration)) → list_places reply false (elements false (forest_of (map (placed global_view declaration_node) xs))) ≡ []
+    pub declarations_told : (xs : List (Spanned GlobalDeclaration)) → told_of_list reply false (elements false (forest_of (map (placed global_view declaration_node) xs))) ≡ []
         → AddsAll names reply (alone (stay reply) (forest_of (map (placed global_view declaration_node) xs))) a b → Good (branch declarations (map (placed global_view declaration_node) xs))
     declarations_told xs clear h = adds_inside names reply (kind declarations) (forest_of (map (placed global_view declaration_node) xs)) a b refl clear refl h
 
-    pub declarations_refused : (xs : List (Spanned GlobalDeclaration)) → (list_places reply false (elements false (forest_of (map (placed global_view declaration_node) xs))) ≡ [] → ⊥) → AddsFaults names (list_places reply false (elements false (forest_of (map (placed global_view declaration_node) xs)))) a b → Good (branch declarations (map (placed global_view declaration_node) xs))
+    pub declarations_refused : (xs : List (Spanned GlobalDeclaration)) → (told_of_list reply false (elements false (forest_of (map (placed global_view declaration_node) xs))) ≡ [] → ⊥) → AddsFaults names (told_of_list reply false (elements false (forest_of (map (placed global_view declaration_node) xs)))) a b → Good (branch declarations (map (placed global_view declaration_node) xs))
     declarations_refused xs some h = adds_own names reply (kind declarations) (forest_of (map (placed global_view declaration_node) xs)) a b refl some h
 
     pub global_told : (n : Spanned GlobalDeclaration) → Good (global_view n.node) → Good (placed global_view declaration_node n)
@@ -216,7 +217,7 @@ module _ (names : List Text) (reply : Replies ℕ) where
       (adds_past names reply (optional expression_tree e) (forest_of (view u ∷ compound_view y ∷ [])) b d (clear_optional expression_tree (λ e. refl) e)
       (adds_then names reply (view u) (before (compound_view y) end) b c d next last)))))
 
-  pub function_told : (a b c : Told) (f : Function) → AddsFaults names (list_places reply false (elements false (forest_of (map parameter_view f.parameters.items)))) a b → AddsAll names reply (before (compound_view f.body) end) b c → AddsAll names reply (before (function_view f) end) a c
+  pub function_told : (a b c : Told) (f : Function) → AddsFaults names (told_of_list reply false (elements false (forest_of (map parameter_view f.parameters.items)))) a b → AddsAll names reply (before (compound_view f.body) end) b c → AddsAll names reply (before (function_view f) end) a c
   function_told a b c f first last =
       let p = listed parameter_view parameters f.parameters in
       let after = forest_of (attributes_tree f.return_attributes ∷ optional type_view f.return_type ∷ compound_view f.body ∷ []) in
@@ -239,8 +240,8 @@ module _ (features : Features) where
   Told_in n i d g a b = AddsAll n (replies n features) (forest_of (i ∷ d ∷ g ∷ [])) a b
 
   pub unit_told : (u : UnitView) (n : List Text) (i : Vec (Spanned ImportStatement) Global) (d : Vec (Spanned GlobalDirective) Global) (g : Tree) → n ≡ u.names → imports_tree i ≡ u.imports → directives_tree d ≡ u.directives → g ≡ u.declarations
-      → (a b c e : Told) → AddsFaults n (list_places (replies n features) false (elements false (forest_of (map (placed import_view import_node) i.items)))) a b
-      → AddsFaults n (list_places (replies n features) false (elements false (forest_of (map (placed directive_view directive_node) d.items)))) b c → AddsAll n (replies n features) (before g end) c e
+      → (a b c e : Told) → AddsFaults n (told_of_list (replies n features) false (elements false (forest_of (map (placed import_view import_node) i.items)))) a b
+      → AddsFaults n (told_of_list (replies n features) false (elements false (forest_of (map (placed directive_view directive_node) d.items)))) b c → AddsAll n (replies n features) (before g end) c e
       → AddsAll u.names (replies u.names features) (forest_of_unit (trees_of u)) a e
   unit_told u n i d g of_names of_imports of_directives of_declarations a b c e p q r =
       let reply = replies n features in

@@ -5,6 +5,7 @@ ghost use Rattle.wesl_cond_chains.specs.Conditions.{first_condition};
 ghost use Rattle.wesl_cond_chains.specs.Faults.{conditions, opens, place_faults};
 ghost use Rattle.wesl_cond_chains.specs.Nodes.{attributes_forest, condition_of_attribute, is_any, is_several, replies};
 ghost use Rattle.wesl_cond_chains.specs.Places.{condition_places, found_at, all_condition_places};
+ghost use Rattle.wesl_cond_faults.specs.Places.{condition_spans, second_or_only, span_or};
 ghost use Rattle.wesl_cond_faults.specs.Telling.{AddsFaults};
 ghost use Rattle.wesl_tree_names.specs.Path.{Text};
 
@@ -74,8 +75,39 @@ fn is_orphan(attributes: &[AttributeNode], opened: bool) -> bool
     !opened && follows_on(attributes)
 }
 
+/// The span of the condition that is at fault among the attributes: of the second, or of the only one.
+#[tactic(auto, using(crate::proofs::Spans::spans_steps))]
+fn condition_span(attributes: &[AttributeNode]) -> Span
+    ensures { result ≡ second_or_only (condition_spans (attributes_forest attributes.now)) }
+{
+    let mut only = Span { start: 0, end: 0 };
+    let mut seen = false;
+    for attribute in attributes {
+        if is_condition(&attribute.node) {
+            if seen {
+                return attribute.span;
+            }
+            seen = true;
+            only = attribute.span;
+        }
+    }
+    only
+}
+
+/// The span that is told of a node for where its conditions stand: its own, or where that is empty that of the condition at
+/// fault.
+pub fn place_of(own: Span, attributes: &[AttributeNode]) -> Span
+    ensures { result ≡ span_or own (second_or_only (condition_spans (attributes_forest attributes.now))) }
+{
+    if own.start == 0 && own.end == 0 {
+        condition_span(attributes)
+    } else {
+        own
+    }
+}
+
 /// Tells what is wrong with where the conditions among the attributes stand: there is one at most, and an `@elif` or an
-/// `@else` goes on with a chain that is open. `span` is the place of their node.
+/// `@else` goes on with a chain that is open. `span` is the place that is told.
 #[tactic(auto, using(wesl_cond_chains::proofs::Places::place_is))]
 pub fn tell_place(told: &mut Told, attributes: &[AttributeNode], opened: bool, span: Span)
     ensures { (names : List Text) → AddsFaults names (map (found_at span) (place_faults opened (conditions (attributes_forest attributes.now)))) told.old told.new }

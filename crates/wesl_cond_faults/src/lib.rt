@@ -11,5 +11,5 @@ mod statements;
 mod told;
 mod whole;
 
-pub use laws::{law_of_all, law_of_one};
+pub use laws::{law_of_all, law_of_one, law_of_refusals};
 pub use whole::faults;

@@ -1,10 +1,11 @@
 //! The faults of the conditions of a list.
 ghost use Rattle.std.specs.Prelude.{◌≡◌, Bool, false, is_ok};
 ghost use Rattle.wesl_cond_chains.specs.Nodes.{as_element, replies, closed_nodes, nodes_in};
-ghost use Rattle.wesl_cond_chains.specs.Places.{list_places, node_places, opened_after, opened_through};
+ghost use Rattle.wesl_cond_chains.specs.Places.{opened_after, opened_through};
+ghost use Rattle.wesl_cond_faults.specs.Places.{told_of_list, told_of_node};
 ghost use Rattle.wesl_cond_faults.specs.Telling.{AddsFaults};
 
-use crate::attributes::{opens, tell_formulas, tell_place};
+use crate::attributes::{opens, place_of, tell_formulas, tell_place};
 use crate::told::Told;
 use wesl_cond_chains::Conditional;
 use wesl_cond_features::Features;
@@ -18,14 +19,15 @@ fn tell_node<T: Conditional>(
     names: &Names,
     features: &Features,
 ) -> bool
-    ensures told { (closes : Bool) → AddsFaults names.now (node_places (replies names.now features.now) opened (as_element closes (T.tree node.now))) told.old told.new }
+    ensures told { (closes : Bool) → AddsFaults names.now (told_of_node (replies names.now features.now) opened (as_element closes (T.tree node.now))) told.old told.new }
     ensures opened { (closes : Bool) → result ≡ opened_after opened (as_element closes (T.tree node.now)) }
 {
     if node.is_void() {
         return opened;
     }
     let attributes = node.attributes();
-    tell_place(told, attributes, opened, node.span());
+    let span = place_of(node.span(), attributes);
+    tell_place(told, attributes, opened, span);
     tell_formulas(told, attributes, names, features);
     opens(attributes)
 }
@@ -38,7 +40,7 @@ fn tell_nodes<T: Conditional>(
     names: &Names,
     features: &Features,
 ) -> bool
-    ensures told { AddsFaults names.now (list_places (replies names.now features.now) false (nodes_in T.tree nodes.now.items)) told.old told.new }
+    ensures told { AddsFaults names.now (told_of_list (replies names.now features.now) false (nodes_in T.tree nodes.now.items)) told.old told.new }
     ensures opened { result ≡ opened_through false (nodes_in T.tree nodes.now.items) }
 {
     let mut opened = false;
@@ -62,7 +64,7 @@ pub fn tell_list<T: Conditional>(
     names: &Names,
     features: &Features,
 )
-    ensures { AddsFaults names.now (list_places (replies names.now features.now) false (nodes_in T.tree nodes.now.items)) told.old told.new }
+    ensures { AddsFaults names.now (told_of_list (replies names.now features.now) false (nodes_in T.tree nodes.now.items)) told.old told.new }
 {
     let _ = tell_nodes(told, nodes, names, features);
 }
@@ -75,7 +77,7 @@ pub fn tell_both<T: Conditional, L: Conditional>(
     names: &Names,
     features: &Features,
 )
-    ensures { AddsFaults names.now (list_places (replies names.now features.now) false (closed_nodes T.tree nodes.now.items L.tree last.now)) told.old told.new }
+    ensures { AddsFaults names.now (told_of_list (replies names.now features.now) false (closed_nodes T.tree nodes.now.items L.tree last.now)) told.old told.new }
 {
     let opened = tell_nodes(told, nodes, names, features);
     match last {

@@ -1,5 +1,5 @@
 use Rattle.std.proofs.Common.{false, map}
-use Rattle.wesl_cond_chains.specs.Places.{list_places}
+use Rattle.wesl_cond_faults.specs.Places.{told_of_list}
 use Rattle.wesl_cond_chains.specs.Lists.{elements}
 use Rattle.wesl_cond_chains.specs.Nodes.{replies}
 use Rattle.wesl_tree_syntax.specs.Tree.{declaration_node, forest_of}
@@ -13,11 +13,11 @@ returns-then-is_clear c =
     let names = c.args.names.now in
     let reply = replies names c.args.features.now in
     let xs = c.args.declarations.now.items in
-    declarations_told names reply c.args.told.now c.tell_in_declarations.new.told xs (clear_if names _ c.check_list.result c.is_clear.result c.check_list.ensures c.is_clear.ensures c.if-is_clear.true) c.tell_in_declarations.ensures
+    declarations_told names reply c.args.told.now c.tell_in_declarations.new.told xs (clear_if names _ _ c.check_list.result c.is_clear.result c.check_list.ensures c.is_clear.ensures c.if-is_clear.true) c.tell_in_declarations.ensures
 
 pub returns-else-is_clear : goal.returns-else-is_clear
 returns-else-is_clear c =
     let names = c.args.names.now in
     let reply = replies names c.args.features.now in
     let xs = c.args.declarations.now.items in
-    declarations_refused names reply c.args.told.now c.tell_list.new.told xs (some_if names (list_places reply false (elements false (forest_of (map (placed global_view declaration_node) xs)))) c.check_list.result c.is_clear.result c.check_list.ensures c.is_clear.ensures c.if-is_clear.false) c.tell_list.ensures
+    declarations_refused names reply c.args.told.now c.tell_list.new.told xs (some_if names reply (elements false (forest_of (map (placed global_view declaration_node) xs))) c.check_list.result c.is_clear.result c.check_list.ensures c.is_clear.ensures c.if-is_clear.false) c.tell_list.ensures

@@ -3,7 +3,8 @@ use Rattle.wesl_cond_chains.specs.Lists.{elements}
 use Rattle.wesl_cond_chains.specs.Nodes.{replies}
 use Rattle.wesl_tree_syntax.specs.Tree.{forest_of}
 use Rattle.wesl_cond_faults.proofs.Formulas.{begun_at_start, begun_next, begun_all, begun_opened}
-use Rattle.wesl_cond_chains.specs.Places.{list_places, opened_through}
+use Rattle.wesl_cond_chains.specs.Places.{opened_through}
+use Rattle.wesl_cond_faults.specs.Places.{told_of_list}
 use Rattle.wesl_cond_faults.specs.Telling.{AddsFaults}
 use Rattle.wesl_cond_faults.proofs.lists.tell_nodes.Goals as goal
 
@@ -24,7 +25,7 @@ returns-clause-told g c =
     let reply = replies names c.args.features.now in
     let view = g.T.Conditional.tree in
     let l = c.loop-node in
-    subst (λ xs. AddsFaults names (list_places reply false (elements false (forest_of (map view xs)))) c.args.told.now l.told) c.deref-node-items.ensures.value
+    subst (λ xs. AddsFaults names (told_of_list reply false (elements false (forest_of (map view xs)))) c.args.told.now l.told) c.deref-node-items.ensures.value
     (begun_all names reply view c.deref-node-items.result.now l.node-index l.opened c.args.told.now l.told (omega arith) l.invariant)
 
 pub returns-clause-opened : goal.returns-clause-opened
