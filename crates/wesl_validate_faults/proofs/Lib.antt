@@ -4,6 +4,7 @@ pub mod Equality
 pub mod Fitting
 pub mod Listing
 pub mod Repeated
+pub mod Ringed
 pub mod Rings
 pub mod Standing
 pub mod Telling

@@ -79,6 +79,9 @@ module _ (u : UnitView) (names : List Text) (same : names ≡ u.names) (g : Grap
   ring_of a x (inl e, l) = record { leads_there = inl e; leads_back = (steps x a).1 l }
   ring_of a x (inr r, l) = record { leads_there = inr (path_of a x r); leads_back = (steps x a).1 l }
 
+  pub closes_first : (a : ℕ) (ds : List ℕ) (r : Option ℕ) → IsFirst (IsRing g a) ds r → IsFirst (ClosesCycle u a) ds r
+  closes_first a = same_first (IsRing g a) (ClosesCycle u a) (back_of a) (ring_of a)
+
   said_as : (a : ℕ) (r : Option ℕ) → cycle_here names a r ≡ cycle_by u a r
   said_as a None = refl
   said_as a (Some x) = ap (λ ns. cycle_here ns a (Some x)) same

@@ -25,7 +25,7 @@ use Rattle.wesl_scope_strip.proofs.Keeping.{contains_cases, contains_here, conta
 
 -- ---- the first of a list
 module _ (P : ℕ → Type 0) where
-  first_is : (xs : List ℕ) (x : ℕ) → IsFirst P xs (Some x) → P x
+  pub first_is : (xs : List ℕ) (x : ℕ) → IsFirst P xs (Some x) → P x
   first_is [] x e = cc
   first_is (y ∷ xs) x (inl h) = let f : Some x ≡ Some y = h.1 in let e : y ≡ x = cc in subst P e h.0
   first_is (y ∷ xs) x (inr h) = first_is xs x h.1
@@ -39,7 +39,7 @@ module _ (P : ℕ → Type 0) where
       by (inl e) k = absurd (h.0 (subst P (sym e) p))
       by (inr d) k = k d
 
-  one_first : (xs : List ℕ) (r s : Option ℕ) → IsFirst P xs r → IsFirst P xs s → r ≡ s
+  pub one_first : (xs : List ℕ) (r s : Option ℕ) → IsFirst P xs r → IsFirst P xs s → r ≡ s
   one_first [] r s e f = e ∙ sym f
   one_first (x ∷ xs) r s (inl h) (inl k) = h.1 ∙ sym k.1
   one_first (x ∷ xs) r s (inl h) (inr k) = absurd (k.0 h.0)
@@ -48,7 +48,7 @@ module _ (P : ℕ → Type 0) where
 
 module _ (u : UnitView) where
   -- a declared number is one in document order
-  is_declared : (j m : ℕ) → Declares u j m → Contains (module_numbers u) m
+  pub is_declared : (j m : ℕ) → Declares u j m → Contains (module_numbers u) m
   is_declared j m c =
       let s = from_mapped (λ (o : Occurrence ℕ). o.name) (filter (λ (o : Occurrence ℕ). is_module_name o.role && lies_in j o.declaration) (all u)) m c in
       let t = of_passing (λ (o : Occurrence ℕ). is_module_name o.role && lies_in j o.declaration) (all u) s.0 s.1.0 in
@@ -59,7 +59,7 @@ module _ (u : UnitView) where
   first_step a b (directly _ _ s) = is_declared s.0 a s.1
   first_step a b (onward _ c _ s r) = is_declared s.0 a s.1
 
-  leads_from : (a last : ℕ) → ClosesCycle u a last → Contains (module_numbers u) a
+  pub leads_from : (a last : ℕ) → ClosesCycle u a last → Contains (module_numbers u) a
   leads_from a last (inl e, s) = subst (Contains (module_numbers u)) (sym e) (is_declared s.0 last s.1)
   leads_from a last (inr r, s) = first_step a last r
 
@@ -175,7 +175,7 @@ module _ (u : UnitView) (b : BuiltinNames) where
   once_told fs gs e (not_callable d n) c = subst (λ xs. Contains xs (not_callable d n)) (sym e) (to_once fs (not_callable d n) c)
 
   -- ---- none
-  extended : (a c d : ℕ) → Reaches u a c → LeadsTo u c d → Reaches u a d
+  pub extended : (a c d : ℕ) → Reaches u a c → LeadsTo u c d → Reaches u a d
   extended a c d (directly _ _ s) t = onward a c d s (directly c d t)
   extended a c d (onward _ e _ s r) t = onward a e d s (extended e c d r t)
 

@@ -19,7 +19,9 @@ use Rattle.wesl_validate_faults.specs.Listed.{module_numbers, AreCycles, IsFirst
 use Rattle.wesl_validate_faults.specs.declared.finding.Finding.{Finding}
 use Rattle.wesl_validate_faults.specs.declared.finding.Finding.TheVariants as made
 use Rattle.wesl_validate_faults.specs.declared.uses.UndefinedUse.{UndefinedUse}
+use Rattle.wesl_validate_faults.specs.Members.{Member, member_at}
 use Rattle.wesl_validate_faults.specs.Uses.{Use, use_at}
+use Rattle.wesl_validate_faults.specs.declared.members.RingMember.{RingMember}
 
 -- what a finding of the code stands for
 abbrev pub finding_view : Finding → spec.Finding
@@ -36,6 +38,10 @@ findings_view = map finding_view
 -- what uses of the code stand for, one by one
 abbrev pub uses_view : List UndefinedUse → List Use
 uses_view = map (λ x. use_at x.place (option_map (λ m. m.now) x.declaration) x.name.now)
+
+-- what members of rings of the code stand for, one by one
+abbrev pub members_view : List RingMember → List Member
+members_view = map (λ x. member_at x.place x.name.now x.last x.via.now)
 
 -- these findings are put after those before
 abbrev pub AreAdded : List Finding → List Finding → List spec.Finding → Type 0
@@ -60,6 +66,24 @@ declared_here o = if is_module_name o.role then o.name ∷ [] else []
 -- the numbers of the names of imports and declarations among these identifiers, in their order
 abbrev pub declared_among : List Found → List ℕ
 declared_among os = flat_map declared_here os
+
+-- the name of an import or a declaration by its place and its number, where an identifier is one
+abbrev pub placed_here : Found → List (ℕ × ℕ)
+placed_here o = if is_module_name o.role then (o.place, o.name) ∷ [] else []
+
+-- those among these identifiers, in their order
+abbrev pub placed_among : List Found → List (ℕ × ℕ)
+placed_among os = flat_map placed_here os
+
+-- the first place of a number
+abbrev pub place_of : List (ℕ × ℕ) → ℕ → Option ℕ
+place_of [] m = None
+place_of (x ∷ xs) m = if x.1 == m then Some x.0 else place_of xs m
+
+-- the first place of a number, if there is one, by a table
+abbrev pub place_by : List (Option ℕ) → Option ℕ → Option ℕ
+place_by firsts None = None
+place_by firsts (Some m) = value_at firsts m
 
 module _ (names : List Text) where
   -- the name of a declaration, by a list of what each declares
@@ -89,6 +113,15 @@ module _ (names : List Text) where
   abbrev pub cycle_here : ℕ → Option ℕ → List spec.Finding
   cycle_here a None = []
   cycle_here a (Some last) = spec.cycle (name_in names a) (name_in names last) ∷ []
+
+  -- the member of a ring that a name is, by the number of the last on a way back to it and the place of that
+  abbrev pub member_here : ℕ × ℕ → Option ℕ → Option ℕ → List Member
+  member_here x (Some last) (Some p) = member_at x.0 (name_in names x.1) p (name_in names last) ∷ []
+  member_here x _ _ = []
+
+  -- the same by tables of the last on a way back to each number, and of the first place of each
+  abbrev pub member_of : List (Option ℕ) → List (Option ℕ) → ℕ × ℕ → List Member
+  member_of closers firsts x = member_here x (value_at closers x.1) (place_by firsts (value_at closers x.1))
 
 -- whether two numbers are there and are one
 abbrev pub are_one : Option ℕ → Option ℕ → Bool

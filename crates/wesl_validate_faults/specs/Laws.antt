@@ -1,19 +1,21 @@
 -- Laws of the definitions, as functions of the crate cite them.
-use Rattle.std.specs.Prelude.{◌≡◌, ◌≢◌, ℕ, List, map}
+use Rattle.std.specs.Prelude.{◌≡◌, ◌≢◌, ℕ, ◌<◌, length, get_or, List, map}
 use Rattle.std.specs.List.{Contains, AllPairs}
 use Rattle.wesl_tree_names.specs.Path.{Text}
 use Rattle.wesl_tree_names.specs.declared.errors.Diagnostic.{Diagnostic}
-use Rattle.wesl_tree_syntax.specs.Unit.{UnitView}
+use Rattle.wesl_tree_syntax.specs.Unit.{UnitView, numbers}
 use Rattle.wesl_validate_builtins.specs.Builtins.{BuiltinNames}
 use Rattle.wesl_validate_rules.specs.Faults.{RefusesWesl, RefusesWgsl}
 use Rattle.wesl_validate_rules.specs.Calls.{CallOf}
-use Rattle.wesl_validate_rules.specs.Valid.{calls_of, AliasesTo, IsEnd, Fits}
+use Rattle.wesl_validate_rules.specs.Valid.{spelling, calls_of, AliasesTo, IsEnd, Fits}
 use Rattle.wesl_validate_calls.specs.Misfits.{Misses}
 use Rattle.wesl_validate_calls.specs.Verdicts.{IsFirstEnd}
 use Rattle.wesl_validate_calls.specs.declared.misfit.Misfit.{Misfit}
 use Rattle.wesl_validate_faults.specs.Calls.{misfit_told, AreFindingsWgsl}
 use Rattle.wesl_validate_faults.specs.Findings.{Finding, cycle, IsFound, IsFoundWgsl}
-use Rattle.wesl_validate_faults.specs.Listed.{AreFindings, undefineds}
+use Rattle.wesl_validate_faults.specs.Listed.{AreCycles, AreFindings, module_numbers, undefineds}
+use Rattle.wesl_validate_faults.specs.Members as members
+use Rattle.wesl_validate_faults.specs.Members.{Member, AreMembers}
 use Rattle.wesl_validate_faults.specs.Telling.{TellsFinding}
 use Rattle.wesl_validate_faults.specs.Uses.{finding_at, undefined_uses}
 use Rattle.wesl_validate_free.specs.Uses.{free_uses, use_at}
@@ -84,3 +86,21 @@ UsesAreFindings = (u : UnitView) (b : BuiltinNames) → map finding_at (undefine
 -- they are the uses of names that are left free, at the same places
 abbrev pub UsesAreFree : Type 0
 UsesAreFree = (u : UnitView) (b : BuiltinNames) → map (λ x. use_at x.place x.name) (undefined_uses u b) ≡ free_uses u b
+
+-- an identifier of the module stands at the place, and it has the name
+abbrev pub IsNamedAt : UnitView → ℕ → Text → Type 0
+IsNamedAt u p n = (p < length (numbers u)) × (spelling u (get_or (numbers u) p 0) ≡ n)
+
+-- ---- each member of a ring
+
+-- the members of rings, one by one, are the rings that are found, before each is told once
+abbrev pub MembersAreFindings : Type 0
+MembersAreFindings = (u : UnitView) (ms : List Member) → AreMembers u ms → AreCycles u (module_numbers u) (map members.finding_at ms)
+
+-- a module has no two lists of them
+abbrev pub MembersAreOneList : Type 0
+MembersAreOneList = (u : UnitView) (ms ns : List Member) → AreMembers u ms → AreMembers u ns → ms ≡ ns
+
+-- the names stand at their places
+abbrev pub MembersStandThere : Type 0
+MembersStandThere = (u : UnitView) (ms : List Member) → AreMembers u ms → (m : Member) → Contains ms m → IsNamedAt u m.place m.name × IsNamedAt u m.last m.via

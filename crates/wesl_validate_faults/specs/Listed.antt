@@ -22,7 +22,7 @@ repeated_after before [] = []
 repeated_after before (n ∷ ns) = if list_any (bytes_eq n) before then n ∷ repeated_after before ns else repeated_after (before ++ n ∷ []) ns
 
 -- the first of a list that is so, if one is
-abbrev pub IsFirst : (ℕ → Type 0) → List ℕ → Option ℕ → Type 0
+abbrev pub IsFirst : {A : Type 0} → (A → Type 0) → List A → Option A → Type 0
 IsFirst P [] first = first ≡ None
 IsFirst P (x ∷ xs) first = (P x × (first ≡ Some x)) ⊎ ((P x → ⊥) × IsFirst P xs first)
 

@@ -1,5 +1,5 @@
 //! Laws of the definitions.
-ghost use Rattle.wesl_validate_faults.specs.Laws.{IsOneList, IsOneListWgsl, ListsEachCause, ListsEachCauseWgsl, ListsEachOnce, ListsEachOnceWgsl, ListsWhatStands, ListsWhatStandsWgsl, TellsRefusals, TellsRefusalsWgsl, UsesAreFindings, UsesAreFree};
+ghost use Rattle.wesl_validate_faults.specs.Laws.{IsOneList, IsOneListWgsl, ListsEachCause, ListsEachCauseWgsl, ListsEachOnce, ListsEachOnceWgsl, ListsWhatStands, ListsWhatStandsWgsl, MembersAreFindings, MembersAreOneList, MembersStandThere, TellsRefusals, TellsRefusalsWgsl, UsesAreFindings, UsesAreFree};
 
 /// All that is listed stands in the module, and what tells it is one of the refusals of `validate_wesl`.
 pub fn law_of_all()
@@ -36,4 +36,12 @@ pub fn law_of_call_lists()
 pub fn law_of_undefined_uses()
     ensures findings { UsesAreFindings }
     ensures free { UsesAreFree }
+{}
+
+/// The members of rings that are told are the rings of the findings. A module has no two lists of them, and the identifiers
+/// at their places have their names.
+pub fn law_of_ring_members()
+    ensures findings { MembersAreFindings }
+    ensures one { MembersAreOneList }
+    ensures there { MembersStandThere }
 {}

@@ -8,6 +8,7 @@ mod cycles;
 mod duplicates;
 mod finding;
 mod laws;
+mod members;
 mod once;
 mod told;
 mod undefined;
@@ -16,8 +17,10 @@ mod wgsl;
 mod whole;
 
 pub use laws::{
-    law_of_all, law_of_call_lists, law_of_calls, law_of_lists, law_of_one, law_of_undefined_uses,
+    law_of_all, law_of_call_lists, law_of_calls, law_of_lists, law_of_one, law_of_ring_members,
+    law_of_undefined_uses,
 };
+pub use members::{RingMember, ring_members};
 pub use uses::{UndefinedUse, undefined_uses};
 pub use wgsl::faults_wgsl;
 pub use whole::faults_wesl;
