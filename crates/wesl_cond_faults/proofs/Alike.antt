@@ -1,5 +1,5 @@
 -- What is told of lists and trees is what refuses them, with spans.
-use Rattle.std.proofs.Common.{◌≡◌, ◌⊎◌, ◌==◌, ◌&&◌, Bool, true, false, cond, List, [], ◌∷◌, ◌++◌, map, None, Some, inl, inr, refl, sym, ap, ◌∙◌, append_assoc, if◌then◌else◌, Option}
+use Rattle.std.proofs.Common.{◌≡◌, ◌⊎◌, ◌==◌, ◌&&◌, Bool, true, false, cond, List, [], ◌∷◌, ◌++◌, map, None, Some, inl, inr, refl, sym, ap, subst, ◌∙◌, append_assoc, if◌then◌else◌, Option}
 use Rattle.std.specs.List.{flat_map}
 use Rattle.wesl_cond_chains.specs.Chains.{staying}
 use Rattle.wesl_cond_chains.specs.Conditions.{is_void}

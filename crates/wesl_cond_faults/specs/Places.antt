@@ -1,5 +1,5 @@
 -- Where the faults of the conditions of a judged list are told, in document order.
-use Rattle.std.specs.Prelude.{◌≡◌, ◌⊎◌, ◌==◌, ◌&&◌, List, [], ◌∷◌, ◌++◌, map, Bool, None, cond, if◌then◌else◌}
+use Rattle.std.specs.Prelude.{◌≡◌, ◌⊎◌, ◌==◌, ◌&&◌, List, [], ◌∷◌, ◌++◌, map, Bool, false, None, cond, if◌then◌else◌}
 use Rattle.std.specs.List.{flat_map}
 use Rattle.wesl_cond_chains.specs.Chains.{Condition, none, on, else_on, otherwise}
 use Rattle.wesl_cond_chains.specs.Conditions.{attributes_in, condition_at, is_void}

@@ -13,7 +13,7 @@ returns-then-is_clear c =
     let names = c.args.names.now in
     let reply = replies names c.args.features.now in
     let xs = c.args.declarations.now.items in
-    declarations_told names reply c.args.told.now c.tell_in_declarations.new.told xs (clear_if names _ _ c.check_list.result c.is_clear.result c.check_list.ensures c.is_clear.ensures c.if-is_clear.true) c.tell_in_declarations.ensures
+    declarations_told names reply c.args.told.now c.tell_in_declarations.new.told xs (clear_if names reply (elements false (forest_of (map (placed global_view declaration_node) xs))) c.check_list.result c.is_clear.result c.check_list.ensures c.is_clear.ensures c.if-is_clear.true) c.tell_in_declarations.ensures
 
 pub returns-else-is_clear : goal.returns-else-is_clear
 returns-else-is_clear c =

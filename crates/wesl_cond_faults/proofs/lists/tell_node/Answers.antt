@@ -12,8 +12,8 @@ returns-then-is_void-clause-opened g c = void_opened c.args.names.now (replies c
 pub returns-clause-told : goal.returns-clause-told
 returns-clause-told g c =
     let names = c.args.names.now in
-    node_adds names (replies names c.args.features.now) c.args.opened (g.T.Conditional.tree c.args.node.now) c.span-span.result c.place_of-span.result (attributes_forest c.attributes-attributes.result.now) c.args.told.now c.tell_place.new.told c.tell_formulas.new.told
-    (sym c.is_void.ensures ∙ c.if-is_void.false) c.span-span.ensures c.place_of-span.ensures c.attributes-attributes.ensures (c.tell_place.ensures names) c.tell_formulas.ensures
+    node_adds names (replies names c.args.features.now) c.args.opened (g.T.Conditional.tree c.args.node.now) c.span.result c.place_of-span.result (attributes_forest c.attributes-attributes.result.now) c.args.told.now c.tell_place.new.told c.tell_formulas.new.told
+    (sym c.is_void.ensures ∙ c.if-is_void.false) c.span.ensures c.place_of-span.ensures c.attributes-attributes.ensures (c.tell_place.ensures names) c.tell_formulas.ensures
 
 pub returns-clause-opened : goal.returns-clause-opened
 returns-clause-opened g c =

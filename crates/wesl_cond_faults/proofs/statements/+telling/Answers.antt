@@ -1,9 +1,11 @@
-use Rattle.std.proofs.Common.{map, arith, false, subst}
-use Rattle.wesl_cond_chains.specs.Lists.{alone}
-use Rattle.wesl_cond_chains.specs.Nodes.{replies}
+use Rattle.std.proofs.Common.{◌++◌, map, arith, false, true, subst}
+use Rattle.wesl_cond_chains.specs.Lists.{alone, elements}
+use Rattle.wesl_cond_chains.specs.Nodes.{optional_forest, replies}
 use Rattle.std.specs.Box.{box_value}
 use Rattle.wesl_tree_syntax.specs.Tree.{before, end, forest_of}
-use Rattle.wesl_tree_syntax.specs.View.{clause_view, else_if_view, else_view, statement_tree, statement_view}
+use Rattle.wesl_tree_syntax.specs.View.{break_if_view, clause_view, continuing_view, else_if_view, else_view, statement_tree, statement_view}
+use Rattle.wesl_tree_syntax.specs.declared.statement.CompoundStatement.{out-CompoundStatement}
+use Rattle.wesl_tree_syntax.specs.declared.statement.ContinuingStatement.{out-ContinuingStatement}
 use Rattle.wesl_cond_unit.proofs.Leaves.{no_list}
 use Rattle.wesl_cond_faults.proofs.Adding.{clear_if, refused_some, some_if}
 use Rattle.wesl_cond_faults.proofs.Alike.{clear_told}
@@ -37,13 +39,13 @@ pub tell_statement-returns-then-is_clear : goal.tell_statement-returns-then-is_c
 tell_statement-returns-then-is_clear t c =
     let names = c.args.names.now in
     let reply = replies names c.args.features.now in
-    loop_told names reply c.args.statement.now _ c.in-Loop.body c.in-Loop.continuing c.in-Loop.is _ c.args.told.now c.tell_statements.new.told c.tell_last.new.told (clear_if names _ _ c.check_both.result c.is_clear.result c.check_both.ensures c.is_clear.ensures c.if-is_clear.true) c.tell_statements.ensures c.closes-stays.ensures c.tell_last.ensures
+    loop_told names reply c.args.statement.now _ c.in-Loop.body c.in-Loop.continuing c.in-Loop.is _ c.args.told.now c.tell_statements.new.told c.tell_last.new.told (clear_if names reply (elements false (forest_of (map statement_tree (out-CompoundStatement c.in-Loop.body).statements.items)) ++ elements true (optional_forest continuing_view c.in-Loop.continuing)) c.check_both.result c.is_clear.result c.check_both.ensures c.is_clear.ensures c.if-is_clear.true) c.tell_statements.ensures c.closes-stays.ensures c.tell_last.ensures
 
 pub tell_statement-returns-else-is_clear : goal.tell_statement-returns-else-is_clear
 tell_statement-returns-else-is_clear t c =
     let names = c.args.names.now in
     let reply = replies names c.args.features.now in
-    loop_refused names reply c.args.statement.now _ c.in-Loop.body c.in-Loop.continuing c.in-Loop.is c.args.told.now c.tell_both.new.told (some_if names _ _ c.check_both.result c.is_clear.result c.check_both.ensures c.is_clear.ensures c.if-is_clear.false) c.tell_both.ensures
+    loop_refused names reply c.args.statement.now _ c.in-Loop.body c.in-Loop.continuing c.in-Loop.is c.args.told.now c.tell_both.new.told (some_if names reply (elements false (forest_of (map statement_tree (out-CompoundStatement c.in-Loop.body).statements.items)) ++ elements true (optional_forest continuing_view c.in-Loop.continuing)) c.check_both.result c.is_clear.result c.check_both.ensures c.is_clear.ensures c.if-is_clear.false) c.tell_both.ensures
 
 pub tell_statement-returns-in-For : goal.tell_statement-returns-in-For
 tell_statement-returns-in-For t c =
@@ -93,12 +95,12 @@ tell_statements-returns t c =
 pub tell_body-returns-then-is_clear : goal.tell_body-returns-then-is_clear
 tell_body-returns-then-is_clear t c =
     let names = c.args.names.now in
-    body_told names (replies names c.args.features.now) c.args.told.now c.tell_statements.new.told c.args.body.now (clear_if names _ _ c.check_list.result c.is_clear.result c.check_list.ensures c.is_clear.ensures c.if-is_clear.true) c.tell_statements.ensures
+    body_told names (replies names c.args.features.now) c.args.told.now c.tell_statements.new.told c.args.body.now (clear_if names (replies names c.args.features.now) (elements false (forest_of (map statement_tree (out-CompoundStatement c.args.body.now).statements.items))) c.check_list.result c.is_clear.result c.check_list.ensures c.is_clear.ensures c.if-is_clear.true) c.tell_statements.ensures
 
 pub tell_body-returns-else-is_clear : goal.tell_body-returns-else-is_clear
 tell_body-returns-else-is_clear t c =
     let names = c.args.names.now in
-    body_refused names (replies names c.args.features.now) c.args.told.now c.tell_list.new.told c.args.body.now (some_if names _ _ c.check_list.result c.is_clear.result c.check_list.ensures c.is_clear.ensures c.if-is_clear.false) c.tell_list.ensures
+    body_refused names (replies names c.args.features.now) c.args.told.now c.tell_list.new.told c.args.body.now (some_if names (replies names c.args.features.now) (elements false (forest_of (map statement_tree (out-CompoundStatement c.args.body.now).statements.items))) c.check_list.result c.is_clear.result c.check_list.ensures c.is_clear.ensures c.if-is_clear.false) c.tell_list.ensures
 
 pub tell_else_ifs-loop-clause-preserved : goal.tell_else_ifs-loop-clause-preserved
 tell_else_ifs-loop-clause-preserved t c =
@@ -126,7 +128,7 @@ tell_else-returns-in-None t c = absent_told c.args.names.now (replies c.args.nam
 pub tell_clauses-returns-in-Err : goal.tell_clauses-returns-in-Err
 tell_clauses-returns-in-Err t c =
     let names = c.args.names.now in
-    clauses_refused names (replies names c.args.features.now) c.args.told.now c.tell_list.new.told c.args.clauses.now.items (refused_some names _ _ _ c.in-Err.ensures) c.tell_list.ensures
+    clauses_refused names (replies names c.args.features.now) c.args.told.now c.tell_list.new.told c.args.clauses.now.items (refused_some names (replies names c.args.features.now) (elements false (forest_of (map clause_view c.args.clauses.now.items))) _ c.in-Err.ensures) c.tell_list.ensures
 
 pub tell_clauses-loop-clause-init : goal.tell_clauses-loop-clause-init
 tell_clauses-loop-clause-init t c =
@@ -152,7 +154,7 @@ tell_clauses-returns t c =
     let names = c.args.names.now in
     let reply = replies names c.args.features.now in
     let l = c.loop-clause in
-    clauses_told names reply c.args.told.now l.told c.args.clauses.now.items (clear_told reply false _ c.in-Ok.ensures)
+    clauses_told names reply c.args.told.now l.told c.args.clauses.now.items (clear_told reply false (elements false (forest_of (map clause_view c.args.clauses.now.items))) c.in-Ok.ensures)
     (subst (λ xs. AddsAll names reply (alone (stay reply) (forest_of (map clause_view xs))) c.args.told.now l.told) c.deref-clause-items.ensures.value
     (left_none names reply clause_view c.deref-clause-items.result.now c.args.told.now l.clause-index l.chain.kept l.chain.decided l.told (omega arith) l.invariant))
 
@@ -179,9 +181,9 @@ tell_last-returns-in-None t c = last_absent c.args.names.now (replies c.args.nam
 pub tell_block-returns-then-is_clear : goal.tell_block-returns-then-is_clear
 tell_block-returns-then-is_clear t c =
     let names = c.args.names.now in
-    block_told names (replies names c.args.features.now) c.args.block.now c.args.told.now c.tell_statements.new.told (clear_if names _ _ c.check_both.result c.is_clear.result c.check_both.ensures c.is_clear.ensures c.if-is_clear.true) c.tell_statements.ensures
+    block_told names (replies names c.args.features.now) c.args.block.now c.args.told.now c.tell_statements.new.told (clear_if names (replies names c.args.features.now) (elements false (forest_of (map statement_tree (out-CompoundStatement (out-ContinuingStatement c.args.block.now).body).statements.items)) ++ elements true (optional_forest break_if_view (out-ContinuingStatement c.args.block.now).break_if)) c.check_both.result c.is_clear.result c.check_both.ensures c.is_clear.ensures c.if-is_clear.true) c.tell_statements.ensures
 
 pub tell_block-returns-else-is_clear : goal.tell_block-returns-else-is_clear
 tell_block-returns-else-is_clear t c =
     let names = c.args.names.now in
-    block_refused names (replies names c.args.features.now) c.args.block.now c.args.told.now c.tell_both.new.told (some_if names _ _ c.check_both.result c.is_clear.result c.check_both.ensures c.is_clear.ensures c.if-is_clear.false) c.tell_both.ensures
+    block_refused names (replies names c.args.features.now) c.args.block.now c.args.told.now c.tell_both.new.told (some_if names (replies names c.args.features.now) (elements false (forest_of (map statement_tree (out-CompoundStatement (out-ContinuingStatement c.args.block.now).body).statements.items)) ++ elements true (optional_forest break_if_view (out-ContinuingStatement c.args.block.now).break_if)) c.check_both.result c.is_clear.result c.check_both.ensures c.is_clear.ensures c.if-is_clear.false) c.tell_both.ensures
