@@ -39,8 +39,8 @@ module _ {I : Type 0} where
   condition_spans end = []
   condition_spans (tree l attribute others) = and_span (condition_at attribute) (span_of l) (condition_spans others)
 
-  -- The span that is told of a node for where its conditions stand: its own. A parameter, a clause, a continuing block and a
-  -- `break if` have none, and so that of the attribute is told: of the one that goes on with no chain, or of the second one.
+  -- The span that is told of a node for where its conditions stand: its own. Where it has none, as no parameter, clause,
+  -- continuing block and `break if` has, it is that of the attribute that goes on with no chain, or of the second condition.
   abbrev pub node_span : Element I → Span
   node_span x = span_or (span_of x.label) (second_or_only (condition_spans (attributes_in (tree x.label x.children end))))
 

@@ -31,8 +31,8 @@ fn tell_unit(told: &mut Told, unit: &TranslationUnit, features: &Features)
 /// Of each list that is judged every fault is told: a flag with template arguments or answered by a refusal, a formula that
 /// is none, an `@elif` or an `@else` that goes on with no chain, and two conditions on a node. What lies inside the nodes of
 /// a list is judged where the list itself has no fault, and in nodes that stay alone, since which nodes stay is not known
-/// before. The diagnostic of a fault tells the span of the expression at fault, or of the node in the last two cases. A
-/// parameter, a clause, a continuing block and a `break if` have no span; of them it tells that of the attribute that goes on
+/// before. The diagnostic of a fault tells the span of the expression at fault, or of the node in the last two cases. Where a
+/// node has none, as no parameter, clause, continuing block and `break if` has, it tells that of the attribute that goes on
 /// with no chain, or of the second condition.
 ///
 /// ```
