@@ -5,6 +5,7 @@ pub mod Judging
 pub mod Marked
 pub mod Members
 pub mod Misfitting
+pub mod Placing
 pub mod Plain
 pub mod Searching
 pub mod Shaping

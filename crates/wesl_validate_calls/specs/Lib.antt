@@ -4,6 +4,7 @@ pub mod Found
 pub mod Judged
 pub mod Made
 pub mod Misfits
+pub mod Placed
 pub mod Tables
 pub mod Verdicts
 pub mod Views

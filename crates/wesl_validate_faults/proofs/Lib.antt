@@ -1,8 +1,12 @@
+pub mod Again
 pub mod Closing
 pub mod Collecting
 pub mod Equality
 pub mod Fitting
 pub mod Listing
+pub mod Misplaced
+pub mod Natural
+pub mod Placing
 pub mod Repeated
 pub mod Ringed
 pub mod Rings

@@ -2,6 +2,7 @@
 use Rattle.std.specs.Prelude.{◌≡◌, ℕ, Bool, true, false, ◌==◌, Option, Some, None, List, [], ◌∷◌, ◌++◌, map, flat_map, slice_get, if◌then◌else◌}
 use Rattle.std.specs.List.{Contains, list_any}
 use Rattle.std.specs.Option.{option_map}
+use denote.Ref.{Bor}
 use Rattle.wesl_tree_names.specs.Path.{Text}
 use Rattle.wesl_tree_syntax.specs.Unit.{UnitView, name_in}
 use Rattle.wesl_scope_graph.specs.Graphs.{Graph, edges_at}
@@ -20,7 +21,12 @@ use Rattle.wesl_validate_faults.specs.declared.finding.Finding.{Finding}
 use Rattle.wesl_validate_faults.specs.declared.finding.Finding.TheVariants as made
 use Rattle.wesl_validate_faults.specs.declared.uses.UndefinedUse.{UndefinedUse}
 use Rattle.wesl_validate_faults.specs.Members.{Member, member_at}
+use Rattle.wesl_validate_calls.specs.declared.placed.PlacedMisfit.{PlacedMisfit}
+use Rattle.wesl_validate_faults.specs.Misfitting.{Misfitting, misfitting_at}
+use Rattle.wesl_validate_faults.specs.Repeated.{Repeated, repeated_at}
+use Rattle.wesl_validate_faults.specs.declared.misfitting.MisfitCall.{MisfitCall}
 use Rattle.wesl_validate_faults.specs.Uses.{Use, use_at}
+use Rattle.wesl_validate_faults.specs.declared.repeated.RepeatedName.{RepeatedName}
 use Rattle.wesl_validate_faults.specs.declared.members.RingMember.{RingMember}
 
 -- what a finding of the code stands for
@@ -42,6 +48,37 @@ uses_view = map (λ x. use_at x.place (option_map (λ m. m.now) x.declaration) x
 -- what members of rings of the code stand for, one by one
 abbrev pub members_view : List RingMember → List Member
 members_view = map (λ x. member_at x.place x.name.now x.last x.via.now)
+
+-- what repeated names of the code stand for, one by one
+abbrev pub repeated_view : List RepeatedName → List Repeated
+repeated_view = map (λ x. repeated_at x.place x.first x.name.now)
+
+-- what is found where a call fits nothing: how many arguments are taken and the call has, or, where nothing can be called, that
+abbrev pub misfit_by : Option Text → Text → Option (ℕ × ℕ) → spec.Finding
+misfit_by d n None = spec.not_callable d n
+misfit_by d n (Some (k, got)) = spec.miscounted d n k got
+
+-- what a call of the code that fits nothing stands for
+abbrev pub misfitting_seen : MisfitCall → Misfitting
+misfitting_seen x = misfitting_at x.place (misfit_by (option_map (λ m. m.now) x.declaration) x.name.now x.counts)
+
+-- the same of each, one by one
+abbrev pub misfitting_view : List MisfitCall → List Misfitting
+misfitting_view = map misfitting_seen
+
+-- the number of the name of a misfit
+abbrev pub name_number : Misfit → ℕ
+name_number (misfit.ParamCount e k got) = e
+name_number (misfit.NotCallable e) = e
+
+-- how many arguments are taken, and how many the call has
+abbrev pub counts_of : Misfit → Option (ℕ × ℕ)
+counts_of (misfit.ParamCount e k got) = Some (k, got)
+counts_of (misfit.NotCallable e) = None
+
+-- names with their first places, as the code keeps them
+abbrev pub firsts_view : List (Bor Text × ℕ) → List (ℕ × Text)
+firsts_view = map (λ e. (e.1, e.0.now))
 
 -- these findings are put after those before
 abbrev pub AreAdded : List Finding → List Finding → List spec.Finding → Type 0
@@ -108,6 +145,10 @@ module _ (names : List Text) where
   abbrev pub misfit_here : Graph → ℕ → Misfit → spec.Finding
   misfit_here holders j (misfit.ParamCount e k got) = spec.miscounted (name_by holders (Some j)) (name_in names e) k got
   misfit_here holders j (misfit.NotCallable e) = spec.not_callable (name_by holders (Some j)) (name_in names e)
+
+  -- the same at its place
+  abbrev pub misfitting_here : Graph → PlacedMisfit → Misfitting
+  misfitting_here holders m = misfitting_at m.place (misfit_here holders m.declaration m.misfit)
 
   -- what is found of the number a, by the last on a way back to it: that it reaches itself; where there is no last one, nothing
   abbrev pub cycle_here : ℕ → Option ℕ → List spec.Finding

@@ -1,20 +1,24 @@
 -- Laws of the definitions, as functions of the crate cite them.
-use Rattle.std.specs.Prelude.{◌≡◌, ◌≢◌, ℕ, ◌<◌, length, get_or, List, map}
+use Rattle.std.specs.Prelude.{◌≡◌, ◌≢◌, true, ℕ, ◌<◌, length, get_or, List, map}
 use Rattle.std.specs.List.{Contains, AllPairs}
 use Rattle.wesl_tree_names.specs.Path.{Text}
 use Rattle.wesl_tree_names.specs.declared.errors.Diagnostic.{Diagnostic}
-use Rattle.wesl_tree_syntax.specs.Unit.{UnitView, numbers}
+use Rattle.wesl_scope_numbers.specs.Leaves.{are_leaves}
+use Rattle.wesl_tree_syntax.specs.Unit.{UnitView, forest_of_unit, numbers, trees_of}
 use Rattle.wesl_validate_builtins.specs.Builtins.{BuiltinNames}
 use Rattle.wesl_validate_rules.specs.Faults.{RefusesWesl, RefusesWgsl}
 use Rattle.wesl_validate_rules.specs.Calls.{CallOf}
 use Rattle.wesl_validate_rules.specs.Valid.{spelling, calls_of, AliasesTo, IsEnd, Fits}
 use Rattle.wesl_validate_calls.specs.Misfits.{Misses}
-use Rattle.wesl_validate_calls.specs.Verdicts.{IsFirstEnd}
+use Rattle.wesl_validate_calls.specs.Verdicts.{AreMisfits, IsFirstEnd}
 use Rattle.wesl_validate_calls.specs.declared.misfit.Misfit.{Misfit}
 use Rattle.wesl_validate_faults.specs.Calls.{misfit_told, AreFindingsWgsl}
 use Rattle.wesl_validate_faults.specs.Findings.{Finding, cycle, IsFound, IsFoundWgsl}
-use Rattle.wesl_validate_faults.specs.Listed.{AreCycles, AreFindings, module_numbers, undefineds}
+use Rattle.wesl_validate_faults.specs.Listed.{AreCycles, AreFindings, duplicates, module_numbers, undefineds}
 use Rattle.wesl_validate_faults.specs.Members as members
+use Rattle.wesl_validate_faults.specs.Misfitting.{Misfitting, AreMisfitting}
+use Rattle.wesl_validate_faults.specs.Repeated as repeated
+use Rattle.wesl_validate_faults.specs.Repeated.{Repeated}
 use Rattle.wesl_validate_faults.specs.Members.{Member, AreMembers}
 use Rattle.wesl_validate_faults.specs.Telling.{TellsFinding}
 use Rattle.wesl_validate_faults.specs.Uses.{finding_at, undefined_uses}
@@ -104,3 +108,21 @@ MembersAreOneList = (u : UnitView) (ms ns : List Member) → AreMembers u ms →
 -- the names stand at their places
 abbrev pub MembersStandThere : Type 0
 MembersStandThere = (u : UnitView) (ms : List Member) → AreMembers u ms → (m : Member) → Contains ms m → IsNamedAt u m.place m.name × IsNamedAt u m.last m.via
+
+-- ---- each name that is declared again
+
+-- an identifier has nothing below it, as in the trees of all nodes
+abbrev pub HasLeaves : UnitView → Type 0
+HasLeaves u = are_leaves (forest_of_unit (trees_of u)) ≡ true
+
+-- the names that are declared again, one by one, are the duplicates that are found, before each is told once
+abbrev pub RepeatedAreFindings : Type 0
+RepeatedAreFindings = (u : UnitView) → HasLeaves u → map repeated.finding_at (repeated.repeated u) ≡ duplicates u
+
+-- ---- each call that fits nothing
+
+-- the calls that fit nothing, one by one, are the misfits of the module, told by names, before each is told once
+abbrev pub MisfittingAreFindings : Type 0
+MisfittingAreFindings =
+    (u : UnitView) (b : BuiltinNames) (cs : List Misfitting) → HasLeaves u → AreMisfitting u b cs
+    → (ms : List (ℕ × Misfit)) × AreMisfits u b ms × (map (λ c. c.found) cs ≡ map (λ p. misfit_told u p.0 p.1) ms)

@@ -1,5 +1,5 @@
 //! Laws of the definitions.
-ghost use Rattle.wesl_validate_faults.specs.Laws.{IsOneList, IsOneListWgsl, ListsEachCause, ListsEachCauseWgsl, ListsEachOnce, ListsEachOnceWgsl, ListsWhatStands, ListsWhatStandsWgsl, MembersAreFindings, MembersAreOneList, MembersStandThere, TellsRefusals, TellsRefusalsWgsl, UsesAreFindings, UsesAreFree};
+ghost use Rattle.wesl_validate_faults.specs.Laws.{IsOneList, IsOneListWgsl, ListsEachCause, ListsEachCauseWgsl, ListsEachOnce, ListsEachOnceWgsl, ListsWhatStands, ListsWhatStandsWgsl, MembersAreFindings, MembersAreOneList, MembersStandThere, MisfittingAreFindings, RepeatedAreFindings, TellsRefusals, TellsRefusalsWgsl, UsesAreFindings, UsesAreFree};
 
 /// All that is listed stands in the module, and what tells it is one of the refusals of `validate_wesl`.
 pub fn law_of_all()
@@ -44,4 +44,14 @@ pub fn law_of_ring_members()
     ensures findings { MembersAreFindings }
     ensures one { MembersAreOneList }
     ensures there { MembersStandThere }
+{}
+
+/// The names that are told as declared again are the duplicates of the findings.
+pub fn law_of_repeated_names()
+    ensures findings { RepeatedAreFindings }
+{}
+
+/// The calls that are told, one by one, are those that fit nothing, as the findings tell them.
+pub fn law_of_misfit_calls()
+    ensures { MisfittingAreFindings }
 {}

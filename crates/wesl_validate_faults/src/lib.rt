@@ -9,7 +9,10 @@ mod duplicates;
 mod finding;
 mod laws;
 mod members;
+mod misfitting;
 mod once;
+mod placed;
+mod repeated;
 mod told;
 mod undefined;
 mod uses;
@@ -17,10 +20,12 @@ mod wgsl;
 mod whole;
 
 pub use laws::{
-    law_of_all, law_of_call_lists, law_of_calls, law_of_lists, law_of_one, law_of_ring_members,
-    law_of_undefined_uses,
+    law_of_all, law_of_call_lists, law_of_calls, law_of_lists, law_of_misfit_calls, law_of_one,
+    law_of_repeated_names, law_of_ring_members, law_of_undefined_uses,
 };
 pub use members::{RingMember, ring_members};
+pub use misfitting::{MisfitCall, misfit_calls};
+pub use repeated::{RepeatedName, repeated_names};
 pub use uses::{UndefinedUse, undefined_uses};
 pub use wgsl::faults_wgsl;
 pub use whole::faults_wesl;

@@ -1,0 +1,28 @@
+-- All calls of a module that fit nothing, each with the place of the name that is called.
+use Rattle.std.specs.Prelude.{◌≡◌, ℕ, Option, Some, None, List, [], ◌∷◌, ◌++◌, get_or}
+use Rattle.wesl_tree_syntax.specs.Unit.{UnitView}
+use Rattle.wesl_validate_builtins.specs.Builtins.{BuiltinNames}
+use Rattle.wesl_validate_rules.specs.Calls.{CallOf}
+use Rattle.wesl_validate_calls.specs.Verdicts.{IsVerdict}
+use Rattle.wesl_validate_calls.specs.declared.misfit.Misfit.{Misfit}
+use Rattle.wesl_validate_calls.specs.declared.placed.PlacedMisfit.{PlacedMisfit}
+
+-- a call of what has a place among these numbers, by its number; past the last one that is 0
+abbrev pub call_there : List ℕ → CallOf ℕ → CallOf ℕ
+call_there numbers c = record { callee = get_or numbers c.callee 0; arguments = c.arguments }
+
+-- the misfit of a call in that declaration, if there is one, at the place that is called
+abbrev pub placed_misfit : ℕ → CallOf ℕ → Option Misfit → List PlacedMisfit
+placed_misfit j c None = []
+placed_misfit j c (Some m) = record { place = c.callee; declaration = j; misfit = m } ∷ []
+
+module _ (u : UnitView) (b : BuiltinNames) (numbers : List ℕ) where
+  -- of these calls of places those that fit nothing, one after the other
+  abbrev pub ArePlacedAmong : List (ℕ × CallOf ℕ) → List PlacedMisfit → Type 0
+  ArePlacedAmong [] ms = ms ≡ []
+  ArePlacedAmong (c ∷ cs) ms =
+      (verdict : Option Misfit) × (rest : List PlacedMisfit) × IsVerdict u b (call_there numbers c.1) verdict × ArePlacedAmong cs rest × (ms ≡ placed_misfit c.0 c.1 verdict ++ rest)
+
+  -- they are put after those before
+  abbrev pub AddsPlaced : List (ℕ × CallOf ℕ) → List PlacedMisfit → List PlacedMisfit → Type 0
+  AddsPlaced cs old new = (ms : List PlacedMisfit) × ArePlacedAmong cs ms × (new ≡ old ++ ms)
