@@ -31,4 +31,5 @@ pub mod Excluding
 pub mod Entries
 pub mod Chained
 pub mod Reasoned
+pub mod Homes
 mod Turns

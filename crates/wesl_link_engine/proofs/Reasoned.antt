@@ -171,7 +171,7 @@ module _ (l : Link) (sound : IsLinkOf (task_in l) l) (root : PathId) (root_at : 
   chain_once x xs h d = told_once nb rs ss xs (chain_named x xs h) d
 
   -- what is held in texts is so in numbers
-  held_back : (y : Node Path Text) → HoldsIn l y → (x : Node PathId NameId) × SameNode (PathAt nb) (NameAt nb) x y × IsHeld l.linked.tables a x
+  pub held_back : (y : Node Path Text) → HoldsIn l y → (x : Node PathId NameId) × SameNode (PathAt nb) (NameAt nb) x y × IsHeld l.linked.tables a x
   held_back y h =
       let (x, same_x, there) = held_to (Back (PathAt nb)) (Back (NameAt nb)) (one_back (PathAt nb) rs) (one_back (NameAt nb) ss) (tables (modules_in l)) l.linked.tables covers_back (task_in l) a same_task_back y h in
       (x, turned nb y x same_x, there)

@@ -16,7 +16,7 @@ use Rattle.wesl_link_symbols.specs.declared.symbols.LookUp.{LookUp}
 use Rattle.wesl_link_symbols.specs.declared.symbols.Symbol.{Symbol}
 use Rattle.wesl_link_symbols.specs.Tables.{Table}
 use Rattle.wesl_link_symbols.specs.Names.{IsUnclearFrom}
-use Rattle.wesl_link_reach.specs.World.{Task, Reached, Followed, IsMissingAt}
+use Rattle.wesl_link_reach.specs.World.{Task, Entered, Reached, Followed, IsMissingAt}
 use Rattle.wesl_link_reach.specs.Faults.{ambiguous, missing}
 use Rattle.wesl_link_reach.specs.Keeping.{IsHeld}
 use Rattle.wesl_link_reach.specs.Linking as linking
@@ -175,6 +175,13 @@ module _ (numbers : NumberTexts) (first : Numbering) (g : Grows first (numbering
       let same_root : r ≡ rt.path = (paths_one nb numbers.paths.different).other r rt.path (path_view path) at root_now.path in
       linked.no_fault (missing p n) (look, subst (λ (x : PathId). Followed k.tables (task_from x kept.items is_eager) look) same_root follows, lacks)
 
+  -- a table stands at each path that is entered
+  entered : (r p : PathId) → PathAt nb r (path_view path) → Entered k.tables (task_from r kept.items is_eager) p → Contains (linking.paths k.tables) p
+  entered r p at h =
+      let same_root : r ≡ rt.path = (paths_one nb numbers.paths.different).other r rt.path (path_view path) at root_now.path in
+      let (t, (c, e)) = (linked.paths p).1 (subst (λ (x : PathId). Entered k.tables (task_from x kept.items is_eager) p) same_root h) in
+      subst (λ (q : PathId). Contains (linking.paths k.tables) q) e (map_contains (λ (u : Table PathId NameId). u.path) k.tables t c)
+
   pub sound : IsLinkOf (task_in link) link
   sound = subst (λ (xs : List Text). IsLinkOf (task_of rm xs is_eager) link) (sym (texts_are nb kept.items keep kept_now)) (record {
     tabled = tabled;
@@ -184,6 +191,7 @@ module _ (numbers : NumberTexts) (first : Numbering) (g : Grows first (numbering
     reached = reached;
     kept = kept_now;
     tables_once = linked.tables_once;
+    entered = entered;
     no_missing = no_missing;
     clear = clear;
   })

@@ -8,7 +8,7 @@ use Rattle.wesl_link_symbols.specs.declared.symbols.LookUp.{LookUp}
 use Rattle.wesl_link_symbols.specs.declared.symbols.Symbol.{Symbol}
 use Rattle.wesl_link_symbols.specs.Tables.{Table}
 use Rattle.wesl_link_symbols.specs.Names.{IsUnclearFrom}
-use Rattle.wesl_link_reach.specs.World.{Task, Reached, Followed, IsMissingAt}
+use Rattle.wesl_link_reach.specs.World.{Task, Entered, Reached, Followed, IsMissingAt}
 use Rattle.wesl_link_reach.specs.Faults.{AreDistinct}
 use Rattle.wesl_link_reach.specs.Keeping.{IsHeld}
 use Rattle.wesl_link_reach.specs.Linking.{paths}
@@ -80,8 +80,9 @@ modules_in l = loaded_modules (all_loaded l)
 abbrev pub IsCovered : Numbering → List LoadedModule → Table PathId NameId → Type 0
 IsCovered nb ms t = (m : LoadedModule) × Contains ms m × IsNumbered nb t (table (module_of m))
 
--- the tables are those of the modules, each path once, the symbols are the reached ones, no look-up that is followed from the
--- kept names is missing, and no name that a held declaration uses stands for two things
+-- the tables are those of the modules, each path once, a table stands at each path that is entered, the symbols are the reached
+-- ones, no look-up that is followed from the kept names is missing, and no name that a held declaration uses stands for two
+-- things
 pub record IsLinkOf (task : Task Path Text) (l : Link) : Type 0 where
   pub tabled : (m : LoadedModule) → Contains (all_loaded l) m → IsTabled (numbering l.numbers) l.linked.tables m
   pub covered : (t : Table PathId NameId) → Contains l.linked.tables t → IsCovered (numbering l.numbers) (all_loaded l) t
@@ -91,6 +92,8 @@ pub record IsLinkOf (task : Task Path Text) (l : Link) : Type 0 where
       → Contains l.linked.symbols s ↔ Reached (tables (modules_in l)) task x
   pub kept : AreRelated (NameAt (numbering l.numbers)) l.kept.items task.kept
   pub tables_once : AreDistinct (paths l.linked.tables)
+  pub entered : (root p : PathId) → PathAt (numbering l.numbers) root (path_view l.root.path)
+      → Entered l.linked.tables (task_from root l.kept.items l.is_eager) p → Contains (paths l.linked.tables) p
   pub no_missing : (root : PathId) (look : LookUp PathId NameId) (p : PathId) (n : NameId) → PathAt (numbering l.numbers) root (path_view l.root.path)
       → Followed l.linked.tables (task_from root l.kept.items l.is_eager) look → IsMissingAt l.linked.tables look p n → ⊥
   pub clear : (t : Table PathId NameId) (name : Option NameId) (n : NameId) → Contains l.linked.tables t → IsHeld l.linked t.path name → IsUnclearFrom t name n → ⊥

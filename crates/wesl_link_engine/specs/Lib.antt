@@ -16,3 +16,4 @@ pub mod Linking
 pub mod Rooted
 pub mod Laws
 pub mod Reasons
+pub mod Homes

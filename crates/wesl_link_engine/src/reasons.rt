@@ -1,33 +1,57 @@
 //! Why something is held in a link.
-ghost use Rattle.std.specs.Prelude.{IfOk, IfSome, IfNone};
-ghost use Rattle.wesl_link_symbols.specs.declared.ids.PathId.{PathId};
-ghost use Rattle.wesl_tree_base.specs.declared.ids.NameId.{NameId};
-ghost use Rattle.wesl_link_reasons.specs.declared.node.Node as nodes;
+ghost use Rattle.std.specs.Prelude.{Contains, IfOk, IfSome, IfNone};
+ghost use Rattle.wesl_tree_names.specs.Path.{path_view};
+ghost use Rattle.wesl_link_tables.specs.Numbering.{PathAt};
 ghost use Rattle.wesl_link_tables.specs.TextsView.{numbering_of_texts as numbering};
-ghost use Rattle.wesl_link_engine.specs.Keeping.{IsLinkOf, task_in};
+ghost use Rattle.wesl_link_engine.specs.Keeping.{IsLinkOf, all_loaded, task_in};
+ghost use Rattle.wesl_link_engine.specs.Homes.{HasNone};
 ghost use Rattle.wesl_link_engine.specs.Reasons.{AreReasonsIn, HasTexts, HoldsIn, IsNodeOf, IsReasonOf, TellsOnce, item_at, module_node, told_node, steps_told};
 
 use crate::link::{Link, table_at};
+use crate::loaded::LoadedModule;
 use crate::steps::{Step, steps_of};
 use std::alloc::{AllocError, Global};
 use wesl_link_reasons::node::Node;
 use wesl_link_reasons::{Reasons, reasons_of};
 use wesl_link_symbols::ids::{NameId, PathId};
 use wesl_link_symbols::symbols::Symbol;
-use wesl_link_tables::texts::NumberTexts;
-use wesl_tree_names::ModulePath;
+use wesl_tree_names::{ModulePath, law_of_equality};
 
-/// The symbol of a name in the module at a path, if both have numbers.
-pub(crate) fn item_of(
-    numbers: &NumberTexts,
-    path: &ModulePath,
-    name: &str,
-) -> Option<Node<PathId, NameId>>
-    ensures found { IfSome result (IsNodeOf (numbering numbers.now) (item_at path.now name.now)) }
-    ensures none { IfNone result ((x : nodes.Node PathId NameId) → IsNodeOf (numbering numbers.now) (item_at path.now name.now) x → ⊥) }
+/// The number of the path of a module of a link.
+fn number_of(link: &Link, module: &LoadedModule) -> PathId
+    requires sound { IsLinkOf (task_in link.now) link.now }
+    requires inside { Contains (all_loaded link.now) «module».now }
+    ensures { PathAt (numbering link.now.numbers) result (path_view «module».now.path) }
 {
-    match numbers.paths.find(path) {
-        Some(path) => match numbers.names.find(name) {
+    table_at(&link.linked, module.place).path()
+}
+
+/// The number of a path, if a module of the link stands there: each is looked at once.
+fn number_at(link: &Link, path: &ModulePath) -> Option<PathId>
+    requires { IsLinkOf (task_in link.now) link.now }
+    ensures found { IfSome result (λ p. PathAt (numbering link.now.numbers) p (path_view path.now)) }
+    ensures none { IfNone result (HasNone link.now (path_view path.now)) }
+{
+    law_of_equality();
+    if link.root.path == *path {
+        return Some(number_of(link, &link.root));
+    }
+    for module in &link.others {
+        if module.path == *path {
+            return Some(number_of(link, module));
+        }
+    }
+    None
+}
+
+/// The symbol of a name in the module at a path, if the link has the module and the name has a number.
+fn item_of(link: &Link, path: &ModulePath, name: &str) -> Option<Node<PathId, NameId>>
+    requires { IsLinkOf (task_in link.now) link.now }
+    ensures found { IfSome result (IsNodeOf (numbering link.now.numbers) (item_at path.now name.now)) }
+    ensures none { IfNone result (HoldsIn link.now (item_at path.now name.now) → ⊥) }
+{
+    match number_at(link, path) {
+        Some(path) => match link.numbers.names.find(name) {
             Some(name) => Some(Node::Item(Symbol { path, name })),
             None => None,
         },
@@ -35,12 +59,13 @@ pub(crate) fn item_of(
     }
 }
 
-/// The module at a path, if it has a number.
-pub(crate) fn module_of(numbers: &NumberTexts, path: &ModulePath) -> Option<Node<PathId, NameId>>
-    ensures found { IfSome result (IsNodeOf (numbering numbers.now) (module_node path.now)) }
-    ensures none { IfNone result ((x : nodes.Node PathId NameId) → IsNodeOf (numbering numbers.now) (module_node path.now) x → ⊥) }
+/// The module at a path, if the link has it.
+fn module_of(link: &Link, path: &ModulePath) -> Option<Node<PathId, NameId>>
+    requires { IsLinkOf (task_in link.now) link.now }
+    ensures found { IfSome result (IsNodeOf (numbering link.now.numbers) (module_node path.now)) }
+    ensures none { IfNone result (HoldsIn link.now (module_node path.now) → ⊥) }
 {
-    match numbers.paths.find(path) {
+    match number_at(link, path) {
         Some(path) => Some(Node::Module(path)),
         None => None,
     }
@@ -70,7 +95,7 @@ fn steps_to<'a>(
 {
     let reasons = all_reasons(alloc, link)?;
     match reasons.of_node(alloc, node)? {
-        Some(chain) => Ok(Some(steps_of(alloc, &link.numbers, &chain)?)),
+        Some(chain) => Ok(Some(steps_of(alloc, link, &chain)?)),
         None => Ok(None),
     }
 }
@@ -87,7 +112,7 @@ pub(crate) fn item_reason<'a>(
     ensures once { IfOk result TellsOnce }
     ensures none { IfOk result (λ o. IfNone o (HoldsIn link.now (item_at path.now name.now) → ⊥)) }
 {
-    match item_of(&link.numbers, path, name) {
+    match item_of(link, path, name) {
         Some(node) => steps_to(alloc, link, node),
         None => Ok(None),
     }
@@ -104,7 +129,7 @@ pub(crate) fn module_reason<'a>(
     ensures once { IfOk result TellsOnce }
     ensures none { IfOk result (λ o. IfNone o (HoldsIn link.now (module_node path.now) → ⊥)) }
 {
-    match module_of(&link.numbers, path) {
+    match module_of(link, path) {
         Some(node) => steps_to(alloc, link, node),
         None => Ok(None),
     }

@@ -17,10 +17,7 @@ pub fn path_of(alloc: Global, numbers: &Numbers, id: PathId) -> Result<ModulePat
     requires { (q : Path) × PathAt (numbering numbers.now) id q }
     ensures { IfOk result (λ p. PathAt (numbering numbers.now) id (path_view p)) }
 {
-    let Some(path) = numbers.paths.path(id) else {
-        unreachable!()
-    };
-    path.try_clone(alloc).ok().ok_or(AllocError)
+    numbers.paths.get(alloc, id)
 }
 
 /// The name of a number.
@@ -92,14 +89,8 @@ fn module_at(
 ) -> Result<Option<ModulePath>, AllocError>
     ensures { IfOk result (IsModuleAt (numbering numbers.now) id) }
 {
-    let Some(id) = id else {
-        return Ok(None);
-    };
-    match numbers.paths.path(id) {
-        Some(path) => {
-            let path = path.try_clone(alloc).ok().ok_or(AllocError)?;
-            Ok(Some(path))
-        }
+    match id {
+        Some(id) => numbers.paths.path(alloc, id),
         None => Ok(None),
     }
 }

@@ -85,6 +85,7 @@ link_stable task l h = record {
   reached = λ s x p n. part h (λ k. k.reached s x p n) (reached_stable l task s x);
   kept = part h (λ k. k.kept) (really (related_decided (NameAt (numbering l.numbers)) (name_decided (numbering l.numbers)) l.kept.items task.kept));
   tables_once = part h (λ k. k.tables_once) (distinct_stable (paths l.linked.tables));
+  entered = λ root p at e. part h (λ k. k.entered root p at e) (really (contains_decided same_path_id (paths l.linked.tables) p));
   no_missing = λ root look p n at follows lacks. h (λ k. k.no_missing root look p n at follows lacks);
   clear = λ t name n c held unclear. h (λ k. k.clear t name n c held unclear);
 }

@@ -10,14 +10,14 @@ use Rattle.wesl_link_symbols.specs.declared.symbols.Reference.{Reference}
 use Rattle.wesl_link_tables.specs.Marks.{IsMark}
 use Rattle.wesl_link_split.specs.ScopeView.{scope_view}
 use Rattle.wesl_link_tables.specs.Numbering.{Numbering, AreRelated, SameReference, Grows, NameAt, PathAt, AreNumberedNames, AreNumberedReferences}
-use Rattle.wesl_link_tables.specs.Reading.{mark_of, AddsReferences, AddsNames, Marks, IsNumberedBy, scope_in, view_in}
+use Rattle.wesl_link_tables.specs.Reading.{mark_of, own_path, AddsReferences, AddsNames, Marks, IsNumberedBy, scope_in, view_in}
 use Rattle.wesl_link_tables.specs.Uses.{Use, declares, refers, unclear, local, said, asked, unclear_in}
 use Rattle.wesl_link_tables.specs.declared.marks.Asked.{Asked}
 use Rattle.wesl_link_tables.specs.declared.marks.Mark.{Mark}
 use Rattle.wesl_link_tables.specs.declared.reading.Reading.{Reading}
 use Rattle.wesl_link_tables.specs.declared.marks.Mark.TheVariants as marks
 use Rattle.wesl_link_tables.proofs.Lists.{related_more, related_append}
-use Rattle.wesl_link_tables.proofs.Related.{name_later, reference_later, references_one, scope_later}
+use Rattle.wesl_link_tables.proofs.Related.{name_later, path_later, reference_later, references_one, scope_later}
 
 pub adds_none : (nb : Numbering) (rs : List (Reference PathId NameId)) → AddsReferences nb rs rs []
 adds_none nb rs = ([], sym (append-nil rs), tt)
@@ -125,6 +125,7 @@ marks_one a b g ms us m u h k = related_append (IsMark a) (IsMark b) (mark_later
 -- and so do the numbers of a module that is read
 pub numbered_later : (a b : Numbering) → Grows a b → (r : Reading) → IsNumberedBy a r → IsNumberedBy b r
 numbered_later a b g r h = record {
+  own = path_later a b g r.own (own_path r) h.own;
   scope = scope_later a b g (scope_view r.scope.now) (scope_in r) h.scope;
   ids = related_more (NameAt a) (NameAt b) (name_later a b g) r.ids.now (view_in r).names h.ids;
 }

@@ -1,6 +1,5 @@
 -- What the names of a module stand for is the same by numbers.
 use Rattle.std.proofs.Common.{◌≡◌, ℕ, zero, suc, ◌<◌, ◌+◌, Option, Some, None, List, [], ◌∷◌, ◌++◌, map, All, length, get_or, take, arith, refl, sym, ap, ap₂, ◌∙◌, append-nil, append_assoc}
-use Rattle.std.specs.Prelude.{slice_get}
 use Rattle.wesl_tree_names.specs.Path.{Text, Origin, absolute, relative, from_package, Path, root_path}
 use Rattle.wesl_tree_syntax.specs.Unit.{UnitOf}
 use Rattle.wesl_cond_choices.specs.declared.place.Place.{Place}
@@ -19,15 +18,11 @@ use Rattle.wesl_link_tables.specs.Numbering.{Numbering, AreDifferent, AreRelated
 use Rattle.wesl_link_tables.specs.Reading.{IsPackage}
 use Rattle.wesl_link_tables.specs.Split.{declares_as, declared_from, binders_by, alive_if}
 use Rattle.wesl_link_tables.specs.Uses.{texts}
+use Rattle.wesl_link_paths.proofs.Lists.{getting}
 use Rattle.wesl_link_tables.proofs.Lists.{related_append}
 use Rattle.wesl_link_split.proofs.Grouping.{get_below}
 
 -- ---- numbers that are known
-
-pub getting : {X : Type 0} (xs : List X) (i : ℕ) (x d : X) → slice_get xs i ≡ Some x → get_or xs i d ≡ x
-getting [] i x d h = absurd (let z : ⊥ = cc in z)
-getting (y ∷ xs) zero x d h = cc
-getting (y ∷ xs) (suc i) x d h = getting xs i x d h
 
 module _ (nb : Numbering) where
   known_one : (b : Binder PathId NameId) (c : Binder Path Text) → SameBinder (PathAt nb) (NameAt nb) b c → IsKnown nb b

@@ -1,13 +1,12 @@
 pub mod Lists
 pub mod Nodes
 pub mod Walked
-mod Numbered
 pub mod Related
 pub mod Known
-pub mod Asked
 pub mod Declared
 pub mod Naming
 pub mod Alike
+pub mod Aimed
 pub mod Unsplit
 pub mod Added
 pub mod Seen

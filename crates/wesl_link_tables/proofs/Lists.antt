@@ -1,21 +1,7 @@
 -- Lists that grow by one element at a time.
-use Rattle.std.proofs.Common.{◌≡◌, ℕ, zero, suc, ◌<◌, ◌+◌, Some, List, [], ◌∷◌, ◌++◌, map, length, take, get_or, arith, refl, sym, ap, ◌∙◌, append_assoc, append-nil}
-use Rattle.std.specs.Prelude.{slice_get}
-use Rattle.wesl_link_tables.specs.Numbering.{IsLonger, AreRelated}
-
-pub longer_itself : {X : Type 0} (xs : List X) → IsLonger xs xs
-longer_itself xs = ([], sym (append-nil xs))
-
-pub longer_trans : {X : Type 0} (xs ys zs : List X) → IsLonger xs ys → IsLonger ys zs → IsLonger xs zs
-longer_trans xs ys zs (a, e) (b, f) = (a ++ b, f ∙ (ap (λ l. l ++ b) e ∙ append_assoc xs a b))
-
-pub get_longer : {X : Type 0} (xs more : List X) (i : ℕ) (x : X) → slice_get xs i ≡ Some x → slice_get (xs ++ more) i ≡ Some x
-get_longer [] more i x h = absurd (cc)
-get_longer (y ∷ xs) more zero x h = h
-get_longer (y ∷ xs) more (suc i) x h = get_longer xs more i x h
-
-pub get_in : {X : Type 0} (xs ys : List X) (i : ℕ) (x : X) → IsLonger xs ys → slice_get xs i ≡ Some x → slice_get ys i ≡ Some x
-get_in xs ys i x (more, e) h = rw e (get_longer xs more i x h)
+use Rattle.std.proofs.Common.{◌≡◌, ℕ, zero, suc, ◌<◌, ◌+◌, List, [], ◌∷◌, ◌++◌, map, length, take, get_or, arith, refl, ap}
+use Rattle.wesl_link_tables.specs.Numbering.{AreRelated}
+pub use Rattle.wesl_link_paths.proofs.Lists.{longer_itself, longer_trans, get_longer, get_in}
 
 -- the taken elements and the next one
 pub take_next : {X : Type 0} (xs : List X) (i : ℕ) (x : X) → i < length xs → x ≡ get_or xs i x → take (i + 1) xs ≡ take i xs ++ x ∷ []

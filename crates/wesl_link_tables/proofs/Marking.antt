@@ -1,6 +1,5 @@
 -- The marks of references, by what names stand for in a module that is read.
-use Rattle.std.proofs.Common.{◌≡◌, ℕ, Bool, true, false, List, [], ◌∷◌, ◌++◌, map, length, get_or, take, drop, ◌<◌, ◌+◌, refl, sym, subst, ap, ◌∙◌}
-use mathlib.Core.List.{map-map}
+use Rattle.std.proofs.Common.{◌≡◌, ℕ, Bool, true, false, List, [], ◌∷◌, ◌++◌, map, length, take, drop, arith, refl, sym, subst, ap, ◌∙◌}
 use Rattle.wesl_tree_names.specs.Path.{Text, Origin, from_package, absolute, relative, Path, path_view}
 use Rattle.wesl_tree_names.specs.declared.path.ModulePath.{ModulePath}
 use Rattle.wesl_cond_choices.specs.declared.place.Place.{Place}
@@ -17,17 +16,17 @@ use Rattle.wesl_link_split.specs.declared.binders.Start.{Start}
 use Rattle.wesl_link_split.specs.declared.binders.Start.TheVariants as starts
 use Rattle.wesl_link_split.proofs.Agreed.{ask_alike, differ_alike}
 use Rattle.wesl_link_split.proofs.Alike.{first_alike}
-use Rattle.wesl_link_tables.specs.Aims.{spelled_binder}
-use Rattle.wesl_link_tables.specs.Numbering.{Numbering, AreDifferent, Grows, SameBinder, NameAt, PathAt, IsNumberedReference, AreNumberedReferences, AreNumberedBinders}
-use Rattle.wesl_link_tables.specs.Reading.{IsNumberedBy, AddsReferences, Marks, mark_of, own_path, scope_in, plain_in, aimed_in, under_in}
-use Rattle.wesl_link_tables.specs.Uses.{Use, unclear, said, texts, package_name, aims, through}
+use Rattle.wesl_link_tables.specs.Aims.{Aims, spelled_binder}
+use Rattle.wesl_link_tables.specs.Numbering.{Numbering, AreDifferent, Grows, SameBinder, NameAt, PathAt, IsNumberedReference, AreNumberedBinders}
+use Rattle.wesl_link_tables.specs.Reading.{IsNumberedBy, Marks, mark_of, own_path, scope_in, plain_in, aimed_in, under_in}
+use Rattle.wesl_link_tables.specs.Uses.{Use, refers, unclear, said, texts, package_name, aims, through}
 use Rattle.wesl_link_tables.specs.declared.marks.Asked.{Asked}
 use Rattle.wesl_link_tables.specs.declared.marks.Mark.{Mark}
 use Rattle.wesl_link_tables.specs.declared.marks.Mark.TheVariants as marks
 use Rattle.wesl_link_tables.specs.declared.reading.Reading.{Reading}
-use Rattle.wesl_link_tables.proofs.Added.{adds_next, marks_after, marks_unclear, said_unclear, said_clear, numbered_later}
+use Rattle.wesl_link_tables.proofs.Added.{marks_after, marks_unclear, names_none, said_unclear, said_clear, numbered_later}
 use Rattle.wesl_link_tables.proofs.Alike.{binders_are}
-use Rattle.wesl_link_tables.proofs.Related.{grows_trans, name_later, map_next}
+use Rattle.wesl_link_tables.proofs.Related.{name_later}
 
 module _ (r : Reading) (nb : Numbering) (names : AreDifferent nb.names) (paths : AreDifferent nb.paths) (q : IsNumberedBy nb r) where
   abbrev by_number : Scope PathId NameId
@@ -84,30 +83,21 @@ module _ (r : Reading) (nb : Numbering) (names : AreDifferent nb.names) (paths :
         let (one, first) = subst (λ (c : Start). IsStart c these) e begins in
         (sym targets_alike ∙ one, subst (λ (l : List (Binder PathId NameId)). AreNumberedBinders nb l (take 1 those)) first (first_alike (SameBinder (PathAt nb) (NameAt nb)) these those same))
 
--- a name under one module more
-pub under_next : (r : Reading) (a b c : Numbering) → AreDifferent c.names → AreDifferent c.paths → Grows a b → Grows b c → IsNumberedBy a r → (here : Place) (n : NameId) (x : Text) → NameAt a n x → (p : PathId)
-    (ms : List ModulePath) (i : ℕ) (m : ModulePath) (from found new : List (Reference PathId NameId)) → AddsReferences b from found (map (λ q. under texts (scope_in r) x here (path_view q)) (take i ms)) → PathAt c p (path_view m) → i < length ms → m ≡ get_or ms i m
-    → (asked : Place) → asked ≡ split.asked_at ids (scope_view r.scope.now) p n here → new ≡ found ++ record { path = p; name = n; from = asked } ∷ []
-    → AddsReferences c from new (map (λ q. under texts (scope_in r) x here (path_view q)) (take (i + 1) ms))
-under_next r a b c names paths g h q here n x at p ms i m from found new k held bound is asked asked_is new_is =
-    let f : ModulePath → Reference Path Text = λ z. under texts (scope_in r) x here (path_view z) in
-    let there : NameAt c n x = name_later b c h n x (name_later a b g n x at) in
-    let one : Reference PathId NameId = split.under ids (scope_view r.scope.now) n here p in
-    let same : IsNumberedReference c one (f m) = ((alike r c names paths (numbered_later a c (grows_trans a b c g h) r q)).names n x here there).under p (path_view m) held in
-    let made : new ≡ found ++ one ∷ [] = new_is ∙ ap (λ z. found ++ record { path = p; name = n; from = z } ∷ []) asked_is in
-    subst (λ rs. AddsReferences c from rs (map f (take (i + 1) ms))) (sym made)
-    (subst (λ ss. AddsReferences c from (found ++ one ∷ []) ss) (sym (map_next f ms i m bound is)) (adds_next b c h one (f m) from found (map f (take i ms)) k same))
-
--- a name under modules that stand for a path
-pub under_marked : (r : Reading) (a b : Numbering) → Grows a b → (here : Place) (n : NameId) (x : Text) → NameAt a n x → (is : List (Binder PathId NameId)) (bs : List (Binder Path Text)) → AreNumberedBinders a is bs → (path : ModulePath)
-    (modules : List ModulePath) → map path_view modules ≡ aims (own_path r) (map (spelled_binder a) is) (path_view path) → (old new : Asked) (items added : List (Reference PathId NameId)) (k : ℕ) (m : Mark) → new.unclear.items ≡ old.unclear.items
-    → k ≡ length old.references.items → new.references.items ≡ old.references.items ++ added → items ≡ new.references.items → m ≡ mark_of n (drop k items)
-    → AreNumberedReferences b added (map (λ p. under texts (scope_in r) x here (path_view p)) modules) → Marks b m old new (under_in r here bs path x)
-under_marked r a b g here n x at is bs same path modules modules_are old new items added k m clear k_is new_is items_is m_is h =
-    let apart : map (λ p. under texts (scope_in r) x here (path_view p)) modules ≡ map (under texts (scope_in r) x here) (map path_view modules) = simp map-map in
-    let lead : map path_view modules ≡ aims (own_path r) bs (path_view path) = modules_are ∙ ap (λ cs. aims (own_path r) cs (path_view path)) (binders_are a is bs same) in
-    marks_after b n x old new items added k m (map (under texts (scope_in r) x here) (aims (own_path r) bs (path_view path))) (name_later a b g n x at) clear k_is new_is items_is m_is
-    (subst (λ ss. AreNumberedReferences b added ss) (apart ∙ ap (map (under texts (scope_in r) x here)) lead) h)
+-- a name under the module that stands for a path
+pub under_marked : (r : Reading) (a b : Numbering) → AreDifferent b.names → AreDifferent b.paths → Grows a b → IsNumberedBy a r → (here : Place) (n : NameId) (x : Text) → NameAt a n x → (is : List (Binder PathId NameId)) (bs : List (Binder Path Text))
+    → AreNumberedBinders a is bs → (path : ModulePath) (p : PathId) → Aims b p (aims (own_path r) (map (spelled_binder a) is) (path_view path)) → (old new : Asked) (asked : Place) → asked ≡ split.asked_at ids (scope_view r.scope.now) p n here
+    → new.unclear.items ≡ old.unclear.items → new.references.items ≡ old.references.items ++ record { path = p; name = n; from = asked } ∷ [] → Marks b (marks.Asks (record { path = p; name = n; from = asked })) old new (under_in r here bs path x)
+under_marked r a b names paths g h here n x at is bs same path p (q, held, lead) old new asked asked_is clear new_is =
+    let there : NameAt b n x = name_later a b g n x at in
+    let s : Reference Path Text = under texts (scope_in r) x here q in
+    let alone : aims (own_path r) bs (path_view path) ≡ q ∷ [] = ap (λ cs. aims (own_path r) cs (path_view path)) (sym (binders_are a is bs same)) ∙ lead in
+    let made : IsNumberedReference b (split.under ids (scope_view r.scope.now) n here p) s = ((alike r b names paths (numbered_later a b g r h)).names n x here there).under p q held in
+    let one : IsNumberedReference b (record { path = p; name = n; from = asked }) s = subst (λ f. IsNumberedReference b (record { path = p; name = n; from = f }) s) (sym asked_is) made in
+    subst (λ ps. Marks b (marks.Asks (record { path = p; name = n; from = asked })) old new (refers x (map (under texts (scope_in r) x here) ps))) (sym alone) (record {
+      mark = (s, (0, omega arith, refl), one);
+      added = (record { path = p; name = n; from = asked } ∷ [], new_is, (one, tt));
+      unclear = names_none b old.unclear.items new.unclear.items clear;
+    })
 
 module _ (r : Reading) (here : Place) (p : ModulePath) (x : Text) where
   abbrev aimed_from : Origin → Use Path Text

@@ -1,6 +1,5 @@
 -- What has numbers keeps them as names and paths are added.
-use Rattle.std.proofs.Common.{◌≡◌, ℕ, Option, Some, None, List, [], ◌∷◌, ◌++◌, map, take, length, get_or, ap, ◌∙◌, ◌<◌, ◌+◌}
-use Rattle.std.proofs.lemmas.List.{map-append}
+use Rattle.std.proofs.Common.{◌≡◌, Option, Some, None, List, [], ◌∷◌, ◌++◌, ap}
 use Rattle.wesl_tree_names.specs.Path.{Text, Path}
 use Rattle.wesl_cond_choices.specs.Places.{together}
 use Rattle.wesl_link_symbols.specs.declared.ids.PathId.{PathId}
@@ -11,7 +10,8 @@ use Rattle.wesl_link_symbols.specs.Tables.{Declaration, Table}
 use Rattle.wesl_link_split.specs.Split.{Scope}
 use Rattle.wesl_link_split.specs.declared.binders.Binder.{Binder}
 use Rattle.wesl_link_tables.specs.Numbering.{AreRelated, IsRelatedOption, SameImport, SameReference, SameBinder, SameScope, SameDeclaration, SameTable, Numbering, Grows, NameAt, PathAt, AreNumberedDeclarations}
-use Rattle.wesl_link_tables.proofs.Lists.{longer_itself, longer_trans, get_in, related_more, related_append, take_next}
+pub use Rattle.wesl_link_paths.proofs.Ways.{map_next}
+use Rattle.wesl_link_tables.proofs.Lists.{longer_itself, longer_trans, get_in, related_more, related_append}
 
 pub grows_itself : (a : Numbering) → Grows a a
 grows_itself a = record { names = longer_itself a.names; paths = longer_itself a.paths }
@@ -94,10 +94,6 @@ module _ (a b : Numbering) (g : Grows a b) where
   pub declarations_more : (ds : List (Declaration PathId NameId)) (es : List (Declaration Path Text)) (more : List (Declaration PathId NameId)) (further : List (Declaration Path Text))
       → AreRelated (SameDeclaration (PathAt a) (NameAt a)) ds es → AreRelated (SameDeclaration (PathAt b) (NameAt b)) more further → AreRelated (SameDeclaration (PathAt b) (NameAt b)) (ds ++ more) (es ++ further)
   declarations_more ds es more further h k = related_append (SameDeclaration (PathAt a) (NameAt a)) (SameDeclaration (PathAt b) (NameAt b)) declaration_later ds more es further h k
-
--- images of the elements up to one more
-pub map_next : {X Y : Type 0} (f : X → Y) (xs : List X) (i : ℕ) (x : X) → i < length xs → x ≡ get_or xs i x → map f (take (i + 1) xs) ≡ map f (take i xs) ++ f x ∷ []
-map_next f xs i x b e = ap (map f) (take_next xs i x b e) ∙ map-append f (take i xs) (x ∷ [])
 
 -- a table made of parts with numbers
 pub table_made : (nb : Numbering) (t : Table PathId NameId) (u : Table Path Text) → PathAt nb t.path u.path → AreRelated (SameImport (PathAt nb) (NameAt nb)) t.imports u.imports → AreNumberedDeclarations nb t.declarations u.declarations

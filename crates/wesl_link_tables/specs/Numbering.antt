@@ -1,7 +1,6 @@
 -- Numbers for names and paths, and symbol tables that are the same but for the numbers in place of names and paths.
-use Rattle.std.specs.Prelude.{◌≡◌, ◌⊎◌, Bool, false, Option, Some, None, List, [], ◌∷◌, ◌++◌, get_or}
-use Rattle.std.specs.List.{list_any}
-use Rattle.wesl_tree_names.specs.Path.{Text, Path, root_path}
+use Rattle.std.specs.Prelude.{◌≡◌, Option, Some, None, List}
+use Rattle.wesl_tree_names.specs.Path.{Text, Path}
 use Rattle.wesl_cond_choices.specs.declared.place.Place.{Place}
 use Rattle.wesl_cond_choices.specs.Places.{together}
 use Rattle.wesl_link_symbols.specs.declared.ids.PathId.{PathId}
@@ -9,6 +8,7 @@ use Rattle.wesl_tree_base.specs.declared.ids.NameId.{NameId}
 use Rattle.wesl_link_symbols.specs.declared.symbols.Import.{Import}
 use Rattle.wesl_link_symbols.specs.Tables.{Declaration, Table}
 pub use Rattle.wesl_tree_interner.specs.Different.{AreDifferent}
+pub use Rattle.wesl_link_paths.specs.Longer.{IsLonger, path_in}
 pub use Rattle.wesl_link_split.specs.Numbering.{AreRelated, SameImport, SameReference, SameBinder, SameScope, Numbering, NameAt, PathAt, IsNumberedImport, IsNumberedReference, AreNumberedReferences, AreNumberedBinders, IsNumberedScope}
 
 -- ---- tables over paths `P` and names `N`, and over `Q` and `M`, that say the same
@@ -37,18 +37,6 @@ module _ {P N Q M : Type 0} (R : P → Q → Type 0) (S : N → M → Type 0) wh
     pub crowded : t.is_crowded ≡ u.is_crowded
 
 -- ---- numbers
-
--- the path of a number among these
-abbrev pub path_in : List Path → PathId → Path
-path_in paths p = get_or paths p.0 root_path
-
--- the list goes on from the other
-abbrev pub IsLonger : {X : Type 0} → List X → List X → Type 0
-IsLonger {X} old new = (more : List X) × (new ≡ old ++ more)
-
--- the keys stay as they are, as they do where memory is wanting, or a key that equals none of them goes last
-abbrev pub Puts : {K : Type 0} → (K → K → Bool) → List K → K → List K → Type 0
-Puts eq old key new = (new ≡ old) ⊎ ((list_any (eq key) old ≡ false) × (new ≡ old ++ key ∷ []))
 
 -- names and paths are added at the end
 pub record Grows (old new : Numbering) : Type 0 where

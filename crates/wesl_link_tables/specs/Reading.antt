@@ -19,7 +19,7 @@ use Rattle.wesl_scope_meanings.specs.Sensed.{Sense}
 use Rattle.wesl_scope_meanings.specs.Senses.{Manner, of_declaration, of_word, of_meaning, manner_in}
 use Rattle.wesl_scope_meanings.specs.Read.{AreRead, meaning_read}
 use Rattle.wesl_link_tables.specs.Marks.{IsMark}
-use Rattle.wesl_link_tables.specs.Numbering.{Numbering, AreRelated, IsRelatedOption, AreNumberedNames, AreNumberedReferences, AreNumberedBinders, IsNumberedScope, NameAt}
+use Rattle.wesl_link_tables.specs.Numbering.{Numbering, AreRelated, IsRelatedOption, AreNumberedNames, AreNumberedReferences, AreNumberedBinders, IsNumberedScope, NameAt, PathAt}
 use Rattle.wesl_link_tables.specs.NumbersView.{numbering}
 use Rattle.wesl_link_split.specs.ScopeView.{scope_view}
 use Rattle.wesl_link_split.specs.Split.{Scope, under}
@@ -103,8 +103,9 @@ pub record IsRead (r : Reading) : Type 0 where
 abbrev pub AreNumbersOfNames : Numbering → List (Option NameId) → List (TreeOf Text) → Type 0
 AreNumbersOfNames nb ids ds = AreRelated (IsRelatedOption (NameAt nb)) ids (map name_of ds)
 
--- what its names stand for by numbers, and the numbers of its names
+-- the number of its path, what its names stand for by numbers, and the numbers of its names
 pub record IsNumberedBy (nb : Numbering) (r : Reading) : Type 0 where
+  pub own : PathAt nb r.own (own_path r)
   pub scope : IsNumberedScope nb (scope_view r.scope.now) (scope_in r)
   pub ids : AreRelated (NameAt nb) r.ids.now (view_in r).names
 
@@ -142,11 +143,6 @@ IsPackage nb n _ = ⊥
 abbrev pub MarksUnder : Numbers → Numbers → Reading → Place → ModulePath → List (Binder PathId NameId) → NameId → Mark → Asked → Asked → Type 0
 MarksUnder before after r here path imports name m old new =
     (bs : List (Binder Path Text)) → AreNumberedBinders (numbering before) imports bs → MarksName before after name (under_in r here bs path) m old new
-
--- the name of that number is asked for under each of these modules
-abbrev pub AddsUnder : Numbers → Numbers → Reading → Place → NameId → List ModulePath → List (Reference PathId NameId) → List (Reference PathId NameId) → Type 0
-AddsUnder before after r here name modules old new =
-    (x : Text) → NameAt (numbering before) name x → AddsReferences (numbering after) old new (map (λ m. under texts (scope_in r) x here (path_view m)) modules)
 
 -- of each of these declarations the number of the name that it binds by a table of names, if it binds one
 abbrev pub NumbersNames : Numbering → List Text → Vec (Spanned GlobalDeclaration) Global → List (Option NameId) → Type 0

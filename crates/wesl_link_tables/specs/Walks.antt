@@ -1,9 +1,8 @@
 -- What the code has found as it goes over imports.
 use Rattle.std.specs.Prelude.{◌≡◌, ◌<◌, ℕ, List, [], ◌++◌, All, length, map, if◌then◌else◌, Bool, Vec}
 use Rattle.std.specs.declared.alloc.Global.{Global}
-use Rattle.wesl_tree_names.specs.Path.{Path, path_view}
+use Rattle.wesl_tree_names.specs.Path.{Path}
 use Rattle.wesl_tree_names.specs.declared.names.Ident.{Ident}
-use Rattle.wesl_tree_names.specs.declared.path.ModulePath.{ModulePath}
 use Rattle.wesl_tree_syntax.specs.Tree.{Forest, end, tree, identifiers}
 use Rattle.wesl_tree_syntax.specs.View.{import_view as statement_view}
 use Rattle.wesl_tree_syntax.specs.declared.import.ImportStatement.{ImportStatement}
@@ -31,10 +30,6 @@ HavePaths paths is = All (λ (i : Import PathId Ident). i.path.0 < length paths)
 abbrev pub AreKnown : List Path → Vec (Import PathId Ident) Global → Type 0
 AreKnown paths found = HavePaths paths found.items
 
--- the paths that the code has found
-abbrev pub paths_of : Vec ModulePath Global → List Path
-paths_of found = map path_view found.items
-
 -- the imports of this content, after those found before
 abbrev pub imported : Place → Bool → imports.Base → List (Import Path ℕ) → Forest → List (Import Path ℕ)
 imported stands published base found end = found
@@ -57,5 +52,5 @@ abbrev pub KeepsKnown : Base → Vec (Import PathId Ident) Global → Vec (Impor
 KeepsKnown base old new = (paths : List Path) → IsKnownBase paths base → AreKnown paths old → AreKnown paths new
 
 -- the imports of a statement of the module at this path
-abbrev pub statement_imports : ModulePath → Place → ImportStatement → List (Import Path ℕ)
-statement_imports own stands statement = imports.statement_imports (path_view own) stands (statement_view statement).children
+abbrev pub statement_imports : Path → Place → ImportStatement → List (Import Path ℕ)
+statement_imports own stands statement = imports.statement_imports own stands (statement_view statement).children

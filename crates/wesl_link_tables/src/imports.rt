@@ -1,21 +1,20 @@
 //! What the imports of a module bind (WESL, "Imports").
-ghost use Rattle.std.specs.Prelude.{◌≡◌, ◌++◌, true, false, map, option_map, string_bytes, IfOk, OnOk};
-ghost use Rattle.wesl_tree_names.specs.Path.{path_view, is_relative};
+ghost use Rattle.std.specs.Prelude.{◌≡◌, ◌<◌, ◌++◌, length, map, option_map, string_bytes, IfOk, OnOk};
+ghost use Rattle.wesl_tree_names.specs.Path.{path_view};
 ghost use Rattle.wesl_tree_syntax.specs.Tree.{before, end, forest_of};
 ghost use Rattle.wesl_tree_syntax.specs.View.{attribute_view, attributes_tree, content_view, entry_view, item_view, imports_tree};
 ghost use Rattle.wesl_link_tables.specs.Imports as imports;
-ghost use Rattle.wesl_link_tables.specs.Base.{base_view, IsKnownBase};
-ghost use Rattle.wesl_link_tables.specs.Numbering.{IsLonger};
+ghost use Rattle.wesl_link_tables.specs.Base.{base_view, IsKnownBase, IsLast};
+ghost use Rattle.wesl_link_tables.specs.Numbering.{IsLonger, path_in};
 ghost use Rattle.wesl_link_tables.specs.NumbersView.{paths_of};
 ghost use Rattle.wesl_link_tables.specs.Walks.{AreKnown, HasImported, HasItem, KeepsKnown, imports_of, statement_imports};
 
-use crate::memory::memory;
-use crate::numbers::PathNumbers;
 use std::alloc::{AllocError, Global};
 use wesl_cond_choices::place::Place;
+use wesl_link_paths::PathNumbers;
 use wesl_link_symbols::ids::PathId;
 use wesl_link_symbols::symbols::Import;
-use wesl_tree_names::{Ident, ModulePath, PathOrigin};
+use wesl_tree_names::{Ident, ModulePath, law_of_equality};
 use wesl_tree_syntax::{
     Attribute, Attributes, Import as ImportEntry, ImportContent, ImportItem, ImportStatement,
     ImportStatementNode,
@@ -45,10 +44,8 @@ fn in_package(
     let Some((package, names)) = components.split_first() else {
         return Ok(Base::Nowhere);
     };
-    let origin = PathOrigin::Package(package.clone()?);
-    let root = ModulePath::new(origin, Vec::new(alloc));
-    let path = memory(root.join(alloc, names))?;
-    Ok(Base::At(paths.keep(path)?))
+    let root = paths.package(alloc, package)?;
+    Ok(Base::At(paths.extended(root, names)?))
 }
 
 /// Where the entry with these components leads, whose statement or list leads there.
@@ -64,21 +61,21 @@ fn entered(
     ensures grows { IsLonger (paths_of paths.old) (paths_of paths.new) }
 {
     match base {
-        Base::At(path) => Ok(Base::At(paths.extended(alloc, path, components)?)),
+        Base::At(path) => Ok(Base::At(paths.extended(path, components)?)),
         Base::Nowhere => Ok(Base::Nowhere),
         Base::Unset => in_package(alloc, paths, components),
     }
 }
 
-/// Where a statement with this path leads in the module at `own`, where it has one.
+/// Where a statement with this path leads in the module with the number `own`, where it has one.
 fn base_of(
     alloc: Global,
     paths: &mut PathNumbers,
-    own: &ModulePath,
+    own: PathId,
     path: &Option<ModulePath>,
 ) -> Result<Base, AllocError>
-    requires { is_relative (path_view own.now) ≡ false }
-    ensures base { IfOk result (λ b. base_view (paths_of paths.new) b ≡ imports.base_of (path_view own.now) (option_map path_view path.now)) }
+    requires { own.0 < length (paths_of paths.old) }
+    ensures base { IfOk result (λ b. base_view (paths_of paths.new) b ≡ imports.base_of (path_in (paths_of paths.old) own) (option_map path_view path.now)) }
     ensures known { IfOk result (IsKnownBase (paths_of paths.new)) }
     ensures grows { IsLonger (paths_of paths.old) (paths_of paths.new) }
 {
@@ -88,58 +85,93 @@ fn base_of(
     }
 }
 
-/// The imports with a target of the module at `own`, in the order of the source, each with where its statement stands and with
-/// the number of its target's path. Refused for want of memory alone.
+/// The path of the statement before, and where it leads.
+#[derive(Clone, Copy)]
+struct Last<'a> {
+    path: Option<&'a ModulePath>,
+    base: Base,
+}
+
+/// Where a statement with this path leads, behind another: a path that stands in a row is looked up once.
+fn base_after(
+    alloc: Global,
+    paths: &mut PathNumbers,
+    own: PathId,
+    last: Last<'_>,
+    path: &Option<ModulePath>,
+) -> Result<Base, AllocError>
+    requires own { own.0 < length (paths_of paths.old) }
+    requires last { IsLast (paths_of paths.old) own last }
+    ensures base { IfOk result (λ b. base_view (paths_of paths.new) b ≡ imports.base_of (path_in (paths_of paths.old) own) (option_map path_view path.now)) }
+    ensures known { IfOk result (IsKnownBase (paths_of paths.new)) }
+    ensures grows { IsLonger (paths_of paths.old) (paths_of paths.new) }
+{
+    law_of_equality();
+    match (last.path, path) {
+        (Some(before), Some(after)) if *before == *after => Ok(last.base),
+        _ => base_of(alloc, paths, own, path),
+    }
+}
+
+/// The imports with a target of the module with the number `own`, in the order of the source, each with where its statement
+/// stands and with the number of its target's path. Refused for want of memory alone.
 pub fn imports(
     alloc: Global,
     paths: &mut PathNumbers,
-    own: &ModulePath,
+    own: PathId,
     statements: &Vec<ImportStatementNode>,
 ) -> Result<Vec<Import<PathId, Ident>>, AllocError>
-    requires { is_relative (path_view own.now) ≡ false }
-    ensures imports { IfOk result (λ found. imports_of (paths_of paths.new) found ≡ imports.all_imports (path_view own.now) (imports_tree statements.now).children) }
+    requires { own.0 < length (paths_of paths.old) }
+    ensures imports { IfOk result (λ found. imports_of (paths_of paths.new) found ≡ imports.all_imports (path_in (paths_of paths.old) own) (imports_tree statements.now).children) }
     ensures known { IfOk result (AreKnown (paths_of paths.new)) }
     ensures grows { IsLonger (paths_of paths.old) (paths_of paths.new) }
 {
     let mut found = Vec::with_capacity(alloc, statements.len())?;
+    let mut last = Last {
+        path: None,
+        base: Base::Unset,
+    };
     for i in 0..statements.len() {
-        add_statement(
+        let statement = &statements[i].node;
+        last = add_statement(
             alloc,
             paths,
             own,
             &mut found,
             Place::Import(i),
-            &statements[i].node,
+            last,
+            statement,
         )?;
     }
     Ok(found)
 }
 
-fn add_statement(
+/// Adds the imports of a statement behind another, and hands on where it leads.
+fn add_statement<'a>(
     alloc: Global,
     paths: &mut PathNumbers,
-    own: &ModulePath,
+    own: PathId,
     found: &mut Vec<Import<PathId, Ident>>,
     stands: Place,
-    statement: &ImportStatement,
-) -> Result<(), AllocError>
-    requires own { is_relative (path_view own.now) ≡ false }
+    last: Last<'a>,
+    statement: &'a ImportStatement,
+) -> Result<Last<'a>, AllocError>
+    requires own { own.0 < length (paths_of paths.old) }
     requires known { AreKnown (paths_of paths.old) found.old }
-    ensures imports { OnOk result (imports_of (paths_of paths.new) found.new ≡ imports_of (paths_of paths.old) found.old ++ statement_imports own.now stands statement.now) }
+    requires last { IsLast (paths_of paths.old) own last }
+    ensures imports { OnOk result (imports_of (paths_of paths.new) found.new ≡ imports_of (paths_of paths.old) found.old ++ statement_imports (path_in (paths_of paths.old) own) stands statement.now) }
     ensures known { OnOk result (AreKnown (paths_of paths.new) found.new) }
+    ensures last { IfOk result (IsLast (paths_of paths.new) own) }
     ensures grows { IsLonger (paths_of paths.old) (paths_of paths.new) }
 {
-    let base = base_of(alloc, paths, own, &statement.path)?;
+    let base = base_after(alloc, paths, own, last, &statement.path)?;
     let published = is_published(&statement.attributes);
-    add_content(
-        alloc,
-        paths,
-        found,
-        stands,
-        published,
+    let content = &statement.content;
+    add_content(alloc, paths, found, stands, published, base, content)?;
+    Ok(Last {
+        path: statement.path.as_ref(),
         base,
-        &statement.content,
-    )
+    })
 }
 
 #[cycle(imports)]
@@ -205,15 +237,8 @@ fn add_entry(
     ensures grows { IsLonger (paths_of paths.old) (paths_of paths.new) }
 {
     let inner = entered(alloc, paths, base, &entry.path)?;
-    add_content(
-        alloc,
-        paths,
-        found,
-        stands,
-        published,
-        inner,
-        &entry.content,
-    )
+    let content = &entry.content;
+    add_content(alloc, paths, found, stands, published, inner, content)
 }
 
 /// Adds an item, whatever paths the numbers stand for.

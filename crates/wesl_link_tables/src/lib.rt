@@ -6,7 +6,6 @@ pub mod aims;
 pub mod imports;
 pub mod laws;
 pub mod marks;
-mod memory;
 pub mod numbers;
 pub mod reading;
 pub mod table;

@@ -1,15 +1,15 @@
 //! What the identifiers of a module are to a link.
-ghost use Rattle.std.specs.Prelude.{◌≡◌, ◌<◌, ◌≤◌, ◌++◌, ◌∷◌, [], false, All, length, get_or, drop, IfOk, OnOk};
-ghost use Rattle.wesl_tree_names.specs.Path.{path_view, is_relative};
+ghost use Rattle.std.specs.Prelude.{◌≡◌, ◌<◌, ◌≤◌, ◌++◌, ◌∷◌, [], All, length, get_or, drop, IfOk, OnOk};
+ghost use Rattle.wesl_tree_names.specs.Path.{path_view};
 ghost use Rattle.wesl_scope_meanings.specs.Senses.{IsSenseBelow, sense_view};
 ghost use Rattle.wesl_link_tables.specs.Aims.{IsKnown};
 ghost use Rattle.wesl_link_tables.specs.Marks.{IsMark};
 ghost use Rattle.wesl_link_tables.specs.Numbering.{AreRelated, AreNumberedNames, AreNumberedReferences, Grows};
 ghost use Rattle.wesl_link_tables.specs.NumbersView.{numbering};
-ghost use Rattle.wesl_link_tables.specs.Reading.{IsRead, IsNumberedBy, IsPackage, Marks, MarksName, MarksUnder, AddsUnder, plain_in, mark_of, aimed_in, used_as, use_at, all_uses, references_in, unclear_names, span};
+ghost use Rattle.wesl_link_tables.specs.Reading.{IsRead, IsNumberedBy, IsPackage, Marks, MarksName, MarksUnder, plain_in, mark_of, aimed_in, used_as, use_at, all_uses, references_in, unclear_names, span};
 ghost use Rattle.wesl_link_tables.specs.declared.marks.Mark.TheVariants as marks;
 
-use crate::aims::aims;
+use crate::aims::aim;
 use crate::numbers::Numbers;
 use crate::reading::Reading;
 use std::alloc::{AllocError, Global};
@@ -84,32 +84,6 @@ fn mark_plain(
     Ok(mark_after(&found.references, before, name))
 }
 
-/// A name under each of these modules.
-fn add_under(
-    alloc: Global,
-    numbers: &mut Numbers,
-    reading: &Reading<'_, '_>,
-    found: &mut Vec<Reference<PathId, NameId>>,
-    name: NameId,
-    here: Place,
-    modules: &[ModulePath],
-) -> Result<(), AllocError>
-    requires numbered { IsNumberedBy (numbering numbers.now) reading.now }
-    requires asked { All (λ p. is_relative (path_view p) ≡ false) modules.now }
-    ensures added { OnOk result (AddsUnder numbers.old numbers.new reading.now here name modules.now found.old.items found.new.items) }
-    ensures grows { Grows (numbering numbers.old) (numbering numbers.new) }
-{
-    for module in modules {
-        let path = numbers.path(alloc, module)?;
-        found.push(Reference {
-            path,
-            name,
-            from: reading.scope.asked_at(path, name, here),
-        })?;
-    }
-    Ok(())
-}
-
 /// The mark of a name under a path that begins with the name of these imports, where there are some.
 fn mark_under(
     alloc: Global,
@@ -127,18 +101,14 @@ fn mark_under(
     ensures marked { IfOk result (λ m. MarksUnder numbers.old numbers.new reading.now here path.now imports.now name m found.old found.new) }
     ensures grows { Grows (numbering numbers.old) (numbering numbers.new) }
 {
-    let modules = aims(alloc, numbers, reading.path, path, imports)?;
-    let before = found.references.len();
-    add_under(
-        alloc,
-        numbers,
-        reading,
-        &mut found.references,
+    let aimed = aim(alloc, numbers, reading.own, path, imports)?;
+    let reference = Reference {
+        path: aimed,
         name,
-        here,
-        &modules,
-    )?;
-    Ok(mark_after(&found.references, before, name))
+        from: reading.scope.asked_at(aimed, name, here),
+    };
+    found.references.push(reference)?;
+    Ok(Mark::Asks(reference))
 }
 
 /// The mark of a name under a path that begins with the name of a package, which has this number: it may be that of imports.

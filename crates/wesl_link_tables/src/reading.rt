@@ -10,7 +10,7 @@ ghost use Rattle.wesl_link_tables.specs.Reading.{NumbersNames};
 use crate::numbers::{Numbers, spelling};
 use std::alloc::AllocError;
 use wesl_link_split::split::Scope;
-use wesl_link_symbols::ids::NameId;
+use wesl_link_symbols::ids::{NameId, PathId};
 use wesl_scope_meanings::Senses;
 use wesl_tree::TranslationUnit;
 use wesl_tree_names::{Ident, ModulePath, Names};
@@ -21,6 +21,8 @@ use wesl_tree_syntax::{GlobalDeclaration, GlobalDeclarationNode};
 pub struct Reading<'a, 'b> {
     /// where it stands
     pub path: &'a ModulePath,
+    /// the number of this path
+    pub own: PathId,
     pub unit: &'a TranslationUnit,
     /// how its identifiers are read by plain scoping
     pub senses: &'a Senses<'b>,

@@ -419,17 +419,19 @@ fn add_settled(
     Ok(())
 }
 
-/// Marks the declarations of a unit that stands at a path.
+/// Marks the declarations of a unit that stands at the path with this number.
 fn mark_unit(
     alloc: Global,
     numbers: &mut Numbers,
     path: &ModulePath,
+    id: PathId,
     unit: &TranslationUnit,
     numbered: &UnitNumbers,
     scope: &Scope,
     declared: &mut Declared,
 ) -> Result<(), AllocError>
     requires asked { is_relative (path_view path.now) ≡ false }
+    requires held { PathAt (numbering numbers.old) id (path_view path.now) }
     requires numbered { IsNumberedUnit (numbering numbers.old) (imports_at path.now unit.now) (unit_view unit.now) numbered.now }
     requires scope { IsNumberedScope (numbering numbers.old) (scope_view scope.now) (scope_of (path_view path.now) (spelled (unit_view unit.now))) }
     requires empty { IsUndeclared declared.old }
@@ -439,6 +441,7 @@ fn mark_unit(
     let senses = senses_of(alloc, unit)?;
     let reading = Reading {
         path,
+        own: id,
         unit,
         senses: &senses,
         scope,
@@ -469,18 +472,20 @@ impl Parts {
         }
     }
 
-    /// Makes the parts of a unit that stands at a path, has these numbers, and whose names stand for this. It holds nothing,
-    /// so where memory is wanting nothing is let go.
+    /// Makes the parts of a unit that stands at the path with this number, has these numbers, and whose names stand for this. It
+    /// holds nothing, so where memory is wanting nothing is let go.
     fn fill(
         &mut self,
         alloc: Global,
         numbers: &mut Numbers,
+        id: PathId,
         path: &ModulePath,
         unit: &TranslationUnit,
         numbered: &UnitNumbers,
         scope: &Scope,
     ) -> Result<(), AllocError>
         requires asked { is_relative (path_view path.now) ≡ false }
+        requires held { PathAt (numbering numbers.old) id (path_view path.now) }
         requires numbered { IsNumberedUnit (numbering numbers.old) (imports_at path.now unit.now) (unit_view unit.now) numbered.now }
         requires scope { IsNumberedScope (numbering numbers.old) (scope_view scope.now) (scope_of (path_view path.now) (spelled (unit_view unit.now))) }
         requires empty { self.old.imports.items ≡ [] }
@@ -494,6 +499,7 @@ impl Parts {
             alloc,
             numbers,
             path,
+            id,
             unit,
             numbered,
             scope,
@@ -548,7 +554,7 @@ fn tabled_of(
 {
     let scoped = scoped_of(alloc, id, unit, numbered)?;
     let mut parts = Parts::new(alloc);
-    parts.fill(alloc, numbers, path, unit, numbered, &scoped.scope)?;
+    parts.fill(alloc, numbers, id, path, unit, numbered, &scoped.scope)?;
     make_tabled(alloc, id, parts, scoped)
 }
 
@@ -569,7 +575,7 @@ pub fn table_of(
     ensures path { IfOk result (λ t. t.table.path ≡ id) }
     ensures grows { Grows (numbering numbers.old) (numbering numbers.new) }
 {
-    let imports = imports(alloc, &mut numbers.paths, path, unit.imports())?;
+    let imports = imports(alloc, &mut numbers.paths, id, unit.imports())?;
     let mut numbered = UnitNumbers::new(alloc);
     number_unit(numbers, unit, &imports, &mut numbered)?;
     tabled_of(alloc, numbers, id, path, unit, &numbered)

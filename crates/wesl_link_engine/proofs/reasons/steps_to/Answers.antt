@@ -8,18 +8,19 @@ use Rattle.wesl_link_reasons.specs.Found.{Explains, Denies}
 use Rattle.wesl_link_reasons.specs.Reasons.{task_from}
 use Rattle.wesl_link_tables.specs.TextsView.{numbering_of_texts as numbering}
 use Rattle.wesl_link_engine.specs.Reasons.{IsReasonOf, told_node}
-use Rattle.wesl_link_engine.proofs.Reasoned.{chain_named, chain_told, chain_once, denied}
+use Rattle.wesl_link_engine.proofs.Homes.{chain_tellable}
+use Rattle.wesl_link_engine.proofs.Reasoned.{chain_told, chain_once, denied}
 use Rattle.wesl_link_engine.proofs.reasons.steps_to.Goals as goal
 
 abbrev Answer : Type 0
 Answer = Option (Vec (Node PathId NameId) Global)
 
-pub steps_of-requires : goal.steps_of-requires
-steps_of-requires c =
+pub steps_of-requires-clause-tellable : goal.steps_of-requires-clause-tellable
+steps_of-requires-clause-tellable c =
     let l = c.args.link.now in
     let (root, at, are) = c.in_ok-reasons.ensures in
     let told : Explains c.in_ok-reasons.reasons c.args.node c.in-Some.chain.items = subst (λ (o : Answer). IfSome o (λ v. Explains c.in_ok-reasons.reasons c.args.node v.items)) c.in-Some.is c.in_ok-chain.ensures.told in
-    rw c.deref.ensures.value (chain_named l c.requires.sound root at c.args.node c.in-Some.chain.items (told l.linked.tables (task_from root l.kept.items l.is_eager) are))
+    rw c.deref.ensures.value (chain_tellable l c.requires.sound root at c.args.node c.in-Some.chain.items (told l.linked.tables (task_from root l.kept.items l.is_eager) are))
 
 pub returns-in-Some-clause-told : goal.returns-in-Some-clause-told
 returns-in-Some-clause-told c =

@@ -16,6 +16,7 @@ add_declarations-requires-clause-numbered c =
     let u = unit_view c.args.unit.now in
     let n = numbering c.args.numbers.now in
     record {
+      own = c.requires.held;
       scope = c.requires.scope;
       ids = subst (λ is. AreRelated (NameAt n) is u.names) (sym c.deref.ensures.value) c.requires.numbered.ids;
     }

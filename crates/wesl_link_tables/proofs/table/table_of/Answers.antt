@@ -1,5 +1,6 @@
 use Rattle.std.proofs.Common.{◌≡◌, ◌∙◌, ap, subst, sym, map}
 use Rattle.wesl_tree_names.specs.Path.{path_view}
+use Rattle.wesl_tree_syntax.specs.View.{imports_tree}
 use Rattle.wesl_tree.specs.Translation.{unit_view}
 use Rattle.wesl_link_tables.specs.Imports.{all_imports}
 use Rattle.wesl_link_tables.specs.Numbering.{Numbering, Grows}
@@ -7,6 +8,7 @@ use Rattle.wesl_link_tables.specs.NumbersView.{names_of, numbering, paths_of}
 use Rattle.wesl_link_tables.specs.Parts.{IsNumberedUnit}
 use Rattle.wesl_link_tables.specs.Spelling.{spelled_imports}
 use Rattle.wesl_link_tables.specs.Walks.{HavePaths, import_view}
+use Rattle.wesl_link_paths.proofs.Lists.{path_of}
 use Rattle.wesl_link_tables.proofs.Declared.{imports_are}
 use Rattle.wesl_link_tables.proofs.Lists.{longer_itself}
 use Rattle.wesl_link_tables.proofs.Related.{grows_trans, path_later}
@@ -38,7 +40,8 @@ tabled_of-requires-clause-numbered c =
     let u = unit_view c.args.unit.now in
     let own = path_view c.args.path.now in
     let paths = paths_of c.imports-2.new.paths in
-    let same : map (import_view paths) c.in_ok-imports.imports.items ≡ all_imports own u.imports.children = c.in_ok-imports.ensures.imports ∙ ap (λ t. all_imports own t.children) c.imports.ensures.imports in
+    let same : map (import_view paths) c.in_ok-imports.imports.items ≡ all_imports own u.imports.children =
+    c.in_ok-imports.ensures.imports ∙ (ap (λ p. all_imports p (imports_tree c.imports.result.now).children) (path_of (paths_of c.args.numbers.now.paths) c.args.id own c.requires.held) ∙ ap (λ t. all_imports own t.children) c.imports.ensures.imports) in
     subst (λ js. IsNumberedUnit (numbering c.number_unit.new.numbers) js u c.number_unit.new.numbered) (ap (spelled_imports paths u.names) c.deref.ensures.value ∙ imports_are paths own u c.in_ok-imports.imports.items same) c.in_ok-number_unit.ensures.numbered
 
 pub returns-clause-grows : goal.returns-clause-grows

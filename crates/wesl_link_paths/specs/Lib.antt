@@ -1,0 +1,4 @@
+pub mod Longer
+pub mod Nodes
+pub mod NumbersView
+pub mod TextsView
