@@ -1,3 +1,5 @@
 pub mod Unseen
 pub mod LevelView
 pub mod CoversView
+pub mod Sight
+pub mod SightsView

@@ -2,5 +2,7 @@
 #![tactic(auto)]
 
 pub mod covers;
+pub mod laws;
 pub mod level;
+pub mod sights;
 pub mod unions;

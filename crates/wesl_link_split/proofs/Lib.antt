@@ -12,3 +12,4 @@ pub mod Anywhere
 pub mod Passing
 pub mod Leads
 pub mod OneTarget
+pub mod Noting

@@ -4,5 +4,7 @@ pub mod Uses
 pub mod SplitRows
 pub mod Grouped
 pub mod SightView
+pub mod Told
+pub mod Noted
 pub mod ScopeView
 pub mod Laws
