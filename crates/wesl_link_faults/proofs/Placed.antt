@@ -23,7 +23,7 @@ use Rattle.wesl_link_faults.specs.declared.absence.Absence.TheVariants.{TurnedAw
 use Rattle.wesl_link_faults.specs.declared.loading.Loaded.{Loaded}
 use Rattle.wesl_link_faults.specs.declared.loading.Wanted.{Wanted}
 use Rattle.wesl_link_faults.specs.Flaws.{IsBare}
-use Rattle.wesl_link_faults.specs.Loading.{HasPlace, IsLoaded, IsNumbered, Moves, PutsAbsent, PutsTable, asked_in, tables_in, task_wanted}
+use Rattle.wesl_link_faults.specs.Loading.{AreEntered, HasPlace, IsLoaded, IsNumbered, Moves, PutsAbsent, PutsTable, asked_in, tables_in, task_wanted}
 use Rattle.wesl_link_faults.specs.Opened.{HandsRoomy, IsAbsent}
 use Rattle.wesl_link_faults.proofs.Searching.{puts_cases, puts_keep}
 
@@ -137,6 +137,9 @@ module _ {E : Type 0} {hands : PathId → Table PathId NameId → Type 0} {refus
     bare = l.bare;
     single = l.single;
   }
+
+  pub tables_entered : IsLoaded hands refuses ready w s → AreEntered (tables_in s) (task_wanted w)
+  tables_entered l t h = l.entered t.path (l.tables_asked t h)
 
   pub may_ask : IsLoaded hands refuses ready w s → (p : PathId) → Entered (tables_in s) (task_wanted w) p → (Contains (asked_in s) p → ⊥) → ready p
   may_ask l p h fresh = elim (entered_ready (tables_in s) (task_wanted w) ready l.asks_ready p h) [

@@ -22,6 +22,10 @@ use Rattle.wesl_link_faults.specs.Opened.{HandsRoomy, IsAbsent}
 abbrev pub task_wanted : Wanted → Task PathId NameId
 task_wanted w = task_from w.root w.kept.items w.is_eager
 
+-- the path of each of the modules is entered
+abbrev pub AreEntered : List (Table PathId NameId) → Task PathId NameId → Type 0
+AreEntered w task = (t : Table PathId NameId) → Contains w t → Entered w task t.path
+
 module _ {E : Type 0} where
   -- the modules that are loaded
   abbrev pub tables_in : Loaded E → List (Table PathId NameId)

@@ -1,18 +1,20 @@
 //! Loading: each entered path takes a place, with a module or without, as long as there is room.
 ghost use Rattle.std.specs.Prelude.{◌<◌, length, IfOk, OnOk, Contains};
 ghost use Rattle.wesl_link_symbols.specs.declared.ids.PathId.{PathId};
+ghost use Rattle.wesl_link_ahead.specs.Ahead.{IsAhead};
 ghost use Rattle.wesl_link_reach.specs.World.{Entered};
 ghost use Rattle.wesl_link_reach.specs.Loading.{GoesOn};
 ghost use Rattle.wesl_link_reach.specs.OverLoader.{LoaderAdds};
 ghost use Rattle.wesl_link_faults.specs.Keys.{AreKeys};
 ghost use Rattle.wesl_link_faults.specs.Found.{AreFindings};
-ghost use Rattle.wesl_link_faults.specs.Loading.{HasPlace, HavePlaces, IsLoadedOver, Moves, PutsAbsent, PutsTable, tables_in, task_wanted};
+ghost use Rattle.wesl_link_faults.specs.Loading.{AreEntered, HasPlace, HavePlaces, IsLoadedOver, Moves, PutsAbsent, PutsTable, tables_in, task_wanted};
 
 use crate::absence::Absence;
 use crate::keys::{self, Keys};
 use crate::world::{Findings, findings_in};
 use std::alloc::{AllocError, Global};
 use std::collections::HashMap;
+use wesl_link_ahead::{Ahead, Linking};
 use wesl_link_reach::loader::{LoadError, Loader};
 use wesl_link_symbols::ids::{NameId, PathId};
 use wesl_link_symbols::keyed;
@@ -144,6 +146,67 @@ fn ask_all<E: Drop, L: Loader<E>>(
     Ok(())
 }
 
+/// What is found of a link before any module is gone through: the root's path, and what the kept names lead to.
+fn begin_ahead(alloc: Global, wanted: &Wanted, tables: &[Table]) -> Result<Ahead, AllocError>
+    ensures { IfOk result (IsAhead tables.now (task_wanted wanted.now)) }
+{
+    let mut ahead = Ahead::new(alloc);
+    let linking = Linking {
+        tables,
+        root: wanted.root,
+        kept: &wanted.kept,
+        is_eager: wanted.is_eager,
+    };
+    ahead.begin(&linking)?;
+    Ok(ahead)
+}
+
+/// Goes through the modules that were not gone through before, and tells the entered paths that were not told before.
+fn go_ahead(
+    alloc: Global,
+    wanted: &Wanted,
+    tables: &[Table],
+    ahead: &mut Ahead,
+) -> Result<Vec<PathId>, AllocError>
+    requires ahead { IsAhead tables.now (task_wanted wanted.now) ahead.old }
+    requires modules { AreEntered tables.now (task_wanted wanted.now) }
+    ensures entered { IfOk result (λ ps. (p : PathId) → Contains ps.items p → Entered tables.now (task_wanted wanted.now) p) }
+    ensures ahead { OnOk result (IsAhead tables.now (task_wanted wanted.now) ahead.new) }
+{
+    let linking = Linking {
+        tables,
+        root: wanted.root,
+        kept: &wanted.kept,
+        is_eager: wanted.is_eager,
+    };
+    let paths = ahead.go_on(alloc, &linking)?;
+    Ok(paths)
+}
+
+/// Loads modules as far as they lead from one to the next, each of which is gone through once. What is loaded so is entered.
+fn load_ahead<E: Drop, L: Loader<E>>(
+    alloc: Global,
+    wanted: &Wanted,
+    loaded: &mut Loaded<E>,
+    loader: &mut L,
+) -> Result<(), AllocError>
+    requires sound { IsLoadedOver L.Loader loader.old wanted.now loaded.old }
+    ensures sound { OnOk result (IsLoadedOver L.Loader loader.new wanted.now loaded.new) }
+    ensures on { OnOk result (GoesOn (tables_in loaded.old) (tables_in loaded.new)) }
+    ensures adds { LoaderAdds L.Loader loader.old loader.new }
+{
+    let mut ahead = begin_ahead(alloc, wanted, &loaded.tables)?;
+    for _round in 0..usize::MAX {
+        let before = loaded.asked.list.len();
+        let paths = go_ahead(alloc, wanted, &loaded.tables, &mut ahead)?;
+        ask_all(alloc, wanted, loaded, loader, &paths)?;
+        if loaded.asked.list.len() == before {
+            return Ok(());
+        }
+    }
+    Ok(())
+}
+
 /// Loads modules until each path that is entered in their world has a place, or there is no room, and finds all that is wrong
 /// in that world.
 pub fn load_all<E: Drop, L: Loader<E>>(
@@ -159,6 +222,7 @@ pub fn load_all<E: Drop, L: Loader<E>>(
     ensures on { OnOk result (GoesOn (tables_in loaded.old) (tables_in loaded.new)) }
     ensures adds { LoaderAdds L.Loader loader.old loader.new }
 {
+    load_ahead(alloc, wanted, loaded, loader)?;
     'rounds: loop {
         let before = loaded.asked.list.len();
         let found = findings_in(

@@ -14,3 +14,5 @@ mod request;
 mod run;
 mod trail;
 mod trodden;
+
+pub use names::asked_from;
