@@ -5,12 +5,9 @@ use json::{Token, Writer};
 use std::alloc::{AllocError, Global};
 use wesl_explain_text::{chain_of, loaded_in};
 use wesl_explain_world::{
-    Cure, Explanation, FreeName, HeldDeclaration, Meaning, NameClash, NameId, Node, PathId, Read,
-    UnusedImport,
+    Chain, Cure, Explanation, FreeName, HeldDeclaration, Meaning, NameClash, NameId, Node, PathId,
+    Read, UnusedImport,
 };
-
-// How many steps of a chain are written at most.
-const LONGEST: usize = 32;
 
 /// Writes a member that is a text.
 pub fn write_text(out: &mut Writer, key: &str, text: &str) -> Result<(), AllocError> {
@@ -64,32 +61,21 @@ fn write_nodes(
 }
 
 /// Writes a chain, without its middle where it is long.
-pub fn write_chain(
-    out: &mut Writer,
-    told: &Explanation,
-    chain: &[Node<PathId, NameId>],
-) -> Result<(), AllocError> {
+pub fn write_chain(out: &mut Writer, told: &Explanation, chain: &Chain) -> Result<(), AllocError> {
     out.key("chain")?;
     out.begin_array()?;
-    match chain.len().checked_sub(LONGEST) {
-        Some(left_out) if left_out > 0 => {
-            write_nodes(out, told, &chain[..LONGEST / 2])?;
-            write_nodes(out, told, &chain[chain.len() - LONGEST / 2..])?;
-        }
-        _ => write_nodes(out, told, chain)?,
-    }
+    write_nodes(out, told, &chain.first)?;
+    write_nodes(out, told, &chain.last)?;
     out.end_array()
 }
 
-/// Writes how many steps of a chain are left out, where some are.
-pub fn write_left_out(out: &mut Writer, chain: &[Node<PathId, NameId>]) -> Result<(), AllocError> {
-    match chain.len().checked_sub(LONGEST) {
-        Some(left_out) if left_out > 0 => {
-            out.key("left_out")?;
-            out.u64(left_out as u64)
-        }
-        _ => Ok(()),
+/// Writes how many steps of a list are left out, where some are.
+pub fn write_left_out(out: &mut Writer, key: &str, left_out: usize) -> Result<(), AllocError> {
+    if left_out == 0 {
+        return Ok(());
     }
+    out.key(key)?;
+    out.u64(left_out as u64)
 }
 
 /// Writes a module that was loaded.
@@ -97,11 +83,11 @@ fn write_module(
     out: &mut Writer,
     told: &Explanation,
     path: PathId,
-    chain: &[Node<PathId, NameId>],
+    chain: &Chain,
 ) -> Result<(), AllocError> {
     out.begin_object()?;
     write_chain(out, told, chain)?;
-    write_left_out(out, chain)?;
+    write_left_out(out, "left_out", chain.left_out)?;
     write_text(out, "path", told.path(path))?;
     out.end_object()
 }
@@ -126,7 +112,7 @@ fn write_declaration(
     let chain = chain_of(alloc, told, declaration.path, declaration.name)?;
     out.begin_object()?;
     write_chain(out, told, &chain)?;
-    write_left_out(out, &chain)?;
+    write_left_out(out, "left_out", chain.left_out)?;
     write_text(out, "module", told.path(declaration.path))?;
     if let Some(name) = declaration.name {
         write_text(out, "name", told.name(name))?;
@@ -161,6 +147,7 @@ fn write_meaning(out: &mut Writer, told: &Explanation, meaning: Meaning) -> Resu
         Meaning::Held(place) => write_place(out, told, place),
         Meaning::Local => out.string("local"),
         Meaning::Outer => out.string("outer"),
+        Meaning::Word => out.string("word"),
     }
 }
 
@@ -177,7 +164,7 @@ fn cure_word(cure: Cure) -> &'static str {
         Cure::MangleRoot => "mangle_root",
         Cure::AnotherMangler => "mangler",
         Cure::ManglerAndRoot => "mangler_and_root",
-        Cure::AnotherName => "name",
+        Cure::AnotherName | Cure::Rename => "name",
     }
 }
 
@@ -206,10 +193,15 @@ fn write_clash(out: &mut Writer, told: &Explanation, clash: &NameClash) -> Resul
     out.end_object()
 }
 
-fn write_clashes(out: &mut Writer, told: &Explanation) -> Result<(), AllocError> {
-    out.key("clashes")?;
+fn write_clashes(
+    out: &mut Writer,
+    told: &Explanation,
+    key: &str,
+    clashes: &[NameClash],
+) -> Result<(), AllocError> {
+    out.key(key)?;
     out.begin_array()?;
-    for clash in &told.clashes {
+    for clash in clashes {
         write_clash(out, told, clash)?;
     }
     out.end_array()
@@ -266,12 +258,13 @@ fn write_unused(out: &mut Writer, told: &Explanation) -> Result<(), AllocError> 
 /// Writes the members, in the order of their keys.
 fn write_all(out: &mut Writer, alloc: Global, told: &Explanation) -> Result<(), AllocError> {
     out.begin_object()?;
-    write_clashes(out, told)?;
+    write_clashes(out, told, "clashes", &told.clashes.names)?;
     write_faults(out, alloc, told)?;
     write_free(out, told)?;
     write_held(out, alloc, told)?;
     write_modules(out, alloc, told)?;
     write_unused(out, told)?;
+    write_clashes(out, told, "word_clashes", &told.clashes.words)?;
     out.end_object()
 }
 

@@ -6,7 +6,7 @@ use serde_json::Value;
 use std::alloc::{AllocError, Global};
 use wesl_explain_text::{chain_at, cure_word};
 use wesl_explain_world::{
-    Asker, Chain, Explanation, Fault, FaultCure, FaultLine, Flaw, LinkFault, NameId, PathId,
+    Asker, Chain, Cut, Explanation, Fault, FaultCure, FaultLine, Flaw, LinkFault, NameId, PathId,
     Symbol, Target, Use,
 };
 use wesl_tree_base::Span;
@@ -35,8 +35,8 @@ fn write_value(out: &mut Writer, value: &Value) -> Result<(), AllocError> {
 }
 
 /// Writes a member of a line, if it is there.
-fn write_member(out: &mut Writer, line: &FaultLine, key: &str) -> Result<(), AllocError> {
-    match line.value.get(key) {
+fn write_member(out: &mut Writer, line: &Value, key: &str) -> Result<(), AllocError> {
+    match line.get(key) {
         Some(value) => {
             out.key(key)?;
             write_value(out, value)
@@ -113,7 +113,7 @@ fn write_use(
     out.begin_object()?;
     write_chain(out, told, chain)?;
     write_numbers(out, told, asked)?;
-    write_left_out(out, chain)?;
+    write_left_out(out, "left_out", chain.left_out)?;
     write_place(out, told, asked)?;
     out.end_object()
 }
@@ -133,25 +133,41 @@ fn write_uses(
     out.end_array()
 }
 
-/// Writes a fault of a condition.
-fn write_condition(out: &mut Writer, line: &FaultLine) -> Result<(), AllocError> {
+/// Writes the members of a fault of a condition, of which this is the value of its line.
+fn write_condition_line(
+    out: &mut Writer,
+    line: &FaultLine,
+    value: &Value,
+) -> Result<(), AllocError> {
     out.begin_object()?;
-    write_member(out, line, "args")?;
-    write_member(out, line, "fault")?;
-    write_member(out, line, "module")?;
-    write_member(out, line, "span")?;
+    write_member(out, value, "args")?;
+    write_member(out, value, "fault")?;
+    write_member(out, value, "module")?;
+    write_member(out, value, "span")?;
     write_text(out, "text", line.text.as_str())?;
     out.end_object()
 }
 
-fn write_conditions(out: &mut Writer, lines: &[FaultLine]) -> Result<(), AllocError> {
+/// Writes a fault of a condition.
+fn write_condition(out: &mut Writer, alloc: Global, line: &FaultLine) -> Result<(), AllocError> {
+    let value = line.value(alloc)?;
+    let written = write_condition_line(out, line, &value);
+    drop(value);
+    written
+}
+
+fn write_conditions(
+    out: &mut Writer,
+    alloc: Global,
+    lines: &[FaultLine],
+) -> Result<(), AllocError> {
     if lines.is_empty() {
         return Ok(());
     }
     out.key("conditions")?;
     out.begin_array()?;
     for line in lines {
-        write_condition(out, line)?;
+        write_condition(out, alloc, line)?;
     }
     out.end_array()
 }
@@ -186,18 +202,29 @@ fn write_near(
     out.end_array()
 }
 
-/// Writes a member that is a list of names of modules.
+/// Writes names of modules.
+fn write_all(
+    out: &mut Writer,
+    told: &Explanation,
+    symbols: &[Symbol<PathId, NameId>],
+) -> Result<(), AllocError> {
+    for symbol in symbols {
+        write_symbol(out, told, symbol.path, symbol.name)?;
+    }
+    Ok(())
+}
+
+/// Writes a member that is a list of names of modules, without its middle where it is long.
 fn write_symbols(
     out: &mut Writer,
     told: &Explanation,
     key: &str,
-    symbols: &[Symbol<PathId, NameId>],
+    symbols: &Cut<Symbol<PathId, NameId>>,
 ) -> Result<(), AllocError> {
     out.key(key)?;
     out.begin_array()?;
-    for symbol in symbols {
-        write_symbol(out, told, symbol.path, symbol.name)?;
-    }
+    write_all(out, told, &symbols.first)?;
+    write_all(out, told, &symbols.last)?;
     out.end_array()
 }
 
@@ -240,54 +267,74 @@ fn write_absent(out: &mut Writer, told: &Explanation, link: &LinkFault) -> Resul
 fn write_home(
     out: &mut Writer,
     told: &Explanation,
-    fault: &Fault,
+    value: &Value,
     link: &LinkFault,
 ) -> Result<(), AllocError> {
     match link.wrong.flaw {
-        Flaw::NoModule => write_member(out, &fault.line, "module"),
+        Flaw::NoModule => write_member(out, value, "module"),
         _ => write_text(out, "module", told.path(link.wrong.at)),
     }
 }
 
 /// Writes the part of a way that comes back, where it does.
 fn write_ring(out: &mut Writer, told: &Explanation, link: &LinkFault) -> Result<(), AllocError> {
-    if link.ring.is_empty() {
+    let ring = &link.way.ring;
+    if ring.is_empty() {
         return Ok(());
     }
-    write_symbols(out, told, "ring", &link.ring)
+    write_symbols(out, told, "ring", ring)?;
+    write_left_out(out, "ring_left_out", ring.left_out)
 }
 
-/// Writes the members of a fault of a link, in the order of their keys.
+/// Writes the members of a fault of a link, in the order of their keys. `value` is that of its line.
 fn write_link(
     out: &mut Writer,
     alloc: Global,
     told: &Explanation,
     fault: &Fault,
     link: &LinkFault,
+    value: &Value,
 ) -> Result<(), AllocError> {
     write_absent(out, told, link)?;
-    write_member(out, &fault.line, "args")?;
+    write_member(out, value, "args")?;
     write_uses(out, alloc, told, link)?;
-    write_conditions(out, &fault.conditions)?;
+    write_conditions(out, alloc, &fault.conditions)?;
     write_cures(out, &link.cures)?;
-    write_member(out, &fault.line, "fault")?;
-    write_home(out, told, fault, link)?;
+    write_member(out, value, "fault")?;
+    write_home(out, told, value, link)?;
     write_near(out, told, fault, link)?;
     write_ring(out, told, link)?;
-    write_member(out, &fault.line, "span")?;
+    write_member(out, value, "span")?;
     write_targets(out, told, &link.targets)?;
     write_text(out, "text", fault.line.text.as_str())?;
-    write_symbols(out, told, "way", &link.way)
+    write_symbols(out, told, "way", &link.way.asked)?;
+    write_left_out(out, "way_left_out", link.way.asked.left_out)
 }
 
-/// Writes the members of a fault of which its line is told alone.
-fn write_line(out: &mut Writer, line: &FaultLine) -> Result<(), AllocError> {
-    write_member(out, line, "args")?;
-    write_member(out, line, "declaration")?;
-    write_member(out, line, "fault")?;
-    write_member(out, line, "module")?;
-    write_member(out, line, "span")?;
+/// Writes the members of a fault of which its line is told alone. `value` is that of the line.
+fn write_line(out: &mut Writer, line: &FaultLine, value: &Value) -> Result<(), AllocError> {
+    write_member(out, value, "args")?;
+    if let Some(name) = &line.declaration {
+        write_text(out, "declaration", name.as_str())?;
+    }
+    write_member(out, value, "fault")?;
+    write_member(out, value, "module")?;
+    write_member(out, value, "span")?;
     write_text(out, "text", line.text.as_str())
+}
+
+/// Writes the members of a fault. `value` is that of its line.
+fn write_members(
+    out: &mut Writer,
+    alloc: Global,
+    told: &Explanation,
+    fault: &Fault,
+    value: &Value,
+) -> Result<(), AllocError> {
+    match &fault.link {
+        Some(link) => write_link(out, alloc, told, fault, link, value),
+        None => write_line(out, &fault.line, value),
+    }
 }
 
 fn write_fault(
@@ -297,10 +344,10 @@ fn write_fault(
     fault: &Fault,
 ) -> Result<(), AllocError> {
     out.begin_object()?;
-    match &fault.link {
-        Some(link) => write_link(out, alloc, told, fault, link)?,
-        None => write_line(out, &fault.line)?,
-    }
+    let value = fault.line.value(alloc)?;
+    let written = write_members(out, alloc, told, fault, &value);
+    drop(value);
+    written?;
     out.end_object()
 }
 

@@ -2,11 +2,12 @@
 ghost use Rattle.std.specs.Prelude.{◌≡◌};
 ghost use Rattle.wesl_link_faults.specs.Searching.{IsReady};
 
-use crate::way::way_of;
 use std::alloc::{AllocError, Global};
 use std::collections::HashMap;
 use wesl_cond_choices::place::Place;
+use wesl_explain_ways::{Chain, Depths};
 use wesl_link_faults::given::{Given, ask};
+use wesl_link_faults::told::End;
 use wesl_link_reasons::found::Found;
 use wesl_link_reasons::node::Node;
 use wesl_link_symbols::ids::{NameId, PathId};
@@ -19,13 +20,14 @@ use wesl_link_symbols::table::Table;
 pub struct HeldNodes {
     pub nodes: Vec<Found>,
     places: HashMap<Node<PathId, NameId>, usize>,
+    depths: Depths,
 }
 
-/// A search for what is held, and the look-ups that were followed.
+/// A search for what is held, and the look-ups that walks came to, each with the node for which the first did.
 #[derive(Drop)]
 struct Search {
     held: HeldNodes,
-    followed: HashMap<LookUp<PathId, NameId>, usize>,
+    passed: HashMap<LookUp<PathId, NameId>, usize>,
 }
 
 impl HeldNodes {
@@ -34,12 +36,18 @@ impl HeldNodes {
         HeldNodes {
             nodes: Vec::new(alloc),
             places: HashMap::new(alloc),
+            depths: Depths::new(alloc),
         }
     }
 
     /// Where a node stands, if it is held.
     pub fn place_of(&self, node: Node<PathId, NameId>) -> Option<usize> {
         keyed::value_at(&self.places, node)
+    }
+
+    /// The chain from what is kept, or from the root's module, to the node at a place.
+    pub fn chain(&self, alloc: Global, place: usize) -> Result<Chain, AllocError> {
+        self.depths.chain(alloc, &self.nodes, place)
     }
 
     /// Adds a node that was asked for, unless it is there.
@@ -90,59 +98,44 @@ impl HeldNodes {
         Ok(())
     }
 
-    /// Adds what the way of a look-up brings: the modules that it comes to.
-    fn note_modules(
-        &mut self,
-        look_ups: &[LookUp<PathId, NameId>],
-        asker: usize,
-    ) -> Result<(), AllocError> {
-        for look_up in look_ups {
-            self.note(Node::Module(look_up.path), Some(asker))?;
+    /// Adds the symbol that a look-up ends with, where it leads to one.
+    fn note_end(&mut self, end: End<PathId, NameId>, asker: usize) -> Result<(), AllocError> {
+        match end {
+            End::Found(symbol) => self.note(Node::Item(symbol), Some(asker)),
+            End::Flawed(_, _) => Ok(()),
         }
-        Ok(())
     }
 }
 
 impl Search {
-    /// Follows a look-up of the node at a place.
-    fn walk(
-        &mut self,
-        alloc: Global,
-        given: &Given<'_>,
-        place: usize,
-        start: LookUp<PathId, NameId>,
-    ) -> Result<(), AllocError>
-        requires ready { IsReady given.now }
-    {
-        let way = way_of(alloc, given, start)?;
-        self.held.note_modules(&way.look_ups, place)?;
-        if let Some(symbol) = way.symbol {
-            self.held.note(Node::Item(symbol), Some(place))?;
-        }
-        Ok(())
-    }
-
-    /// Follows a look-up of the node at a place, unless it was followed before.
+    /// Follows a look-up of the node at a place to its end, or to one that a walk came to before: adds the modules on the way,
+    /// and the symbol.
     fn follow(
         &mut self,
-        alloc: Global,
         given: &Given<'_>,
         place: usize,
         start: LookUp<PathId, NameId>,
     ) -> Result<(), AllocError>
         requires ready { IsReady given.now }
     {
-        if keyed::value_at(&self.followed, start).is_some() {
-            return Ok(());
+        let mut current = start;
+        for _hop in 0..usize::MAX {
+            if keyed::value_at(&self.passed, current).is_some() {
+                return Ok(());
+            }
+            keyed::put(&mut self.passed, current, place)?;
+            self.held.note(Node::Module(current.path), Some(place))?;
+            match given.hop(current) {
+                Ok(next) => current = next,
+                Err(end) => return self.held.note_end(end, place),
+            }
         }
-        keyed::put(&mut self.followed, start, place)?;
-        self.walk(alloc, given, place, start)
+        Ok(())
     }
 
     /// Follows the references of a declaration.
     fn follow_references(
         &mut self,
-        alloc: Global,
         given: &Given<'_>,
         place: usize,
         table: &Table,
@@ -154,7 +147,7 @@ impl Search {
             return Ok(());
         };
         for reference in declaration.references() {
-            self.follow(alloc, given, place, ask(table, reference))?;
+            self.follow(given, place, ask(table, reference))?;
         }
         Ok(())
     }
@@ -162,7 +155,6 @@ impl Search {
     /// Follows what the declarations of a name ask for in a module, or where there is none its const_asserts.
     fn follow_named(
         &mut self,
-        alloc: Global,
         given: &Given<'_>,
         place: usize,
         table: &Table,
@@ -172,7 +164,7 @@ impl Search {
     {
         let mut at = table.latest_of(name);
         'declarations: while let Some(index) = at {
-            self.follow_references(alloc, given, place, table, index)?;
+            self.follow_references(given, place, table, index)?;
             at = table.earlier_of(index, name);
         }
         Ok(())
@@ -181,7 +173,6 @@ impl Search {
     /// Follows what the declarations of a name ask for in the module at a path, or where there is none its const_asserts.
     fn take_named(
         &mut self,
-        alloc: Global,
         given: &Given<'_>,
         place: usize,
         path: PathId,
@@ -190,7 +181,7 @@ impl Search {
         requires ready { IsReady given.now }
     {
         match given.table(path) {
-            Some(table) => self.follow_named(alloc, given, place, table, name),
+            Some(table) => self.follow_named(given, place, table, name),
             None => Ok(()),
         }
     }
@@ -216,21 +207,19 @@ impl Search {
     /// Takes a module that is held.
     fn take_module(
         &mut self,
-        alloc: Global,
         given: &Given<'_>,
         place: usize,
         path: PathId,
     ) -> Result<(), AllocError>
         requires ready { IsReady given.now }
     {
-        self.take_named(alloc, given, place, path, None)?;
+        self.take_named(given, place, path, None)?;
         self.take_whole(given, place, path)
     }
 
     /// Takes the node at a place.
     fn take(
         &mut self,
-        alloc: Global,
         given: &Given<'_>,
         place: usize,
         node: Node<PathId, NameId>,
@@ -239,7 +228,6 @@ impl Search {
     {
         match node {
             Node::KeptName(name) => self.follow(
-                alloc,
                 given,
                 place,
                 LookUp {
@@ -249,15 +237,13 @@ impl Search {
                     from: Place::Always,
                 },
             ),
-            Node::Module(path) => self.take_module(alloc, given, place, path),
-            Node::Item(symbol) => {
-                self.take_named(alloc, given, place, symbol.path, Some(symbol.name))
-            }
+            Node::Module(path) => self.take_module(given, place, path),
+            Node::Item(symbol) => { self.take_named(given, place, symbol.path, Some(symbol.name)) }
         }
     }
 
     /// Takes each node that is found until all are taken.
-    fn take_all(&mut self, alloc: Global, given: &Given<'_>) -> Result<(), AllocError>
+    fn take_all(&mut self, given: &Given<'_>) -> Result<(), AllocError>
         requires ready { IsReady given.now }
     {
         for place in 0..usize::MAX {
@@ -265,7 +251,7 @@ impl Search {
                 return Ok(());
             };
             let node = found.node;
-            self.take(alloc, given, place, node)?;
+            self.take(given, place, node)?;
         }
         Ok(())
     }
@@ -277,42 +263,20 @@ pub fn held_nodes(alloc: Global, given: &Given<'_>) -> Result<HeldNodes, AllocEr
 {
     let mut search = Search {
         held: HeldNodes::new(alloc),
-        followed: HashMap::new(alloc),
+        passed: HashMap::new(alloc),
     };
     search.held.note_first(given)?;
-    search.take_all(alloc, given)?;
-    let Search { held, followed: _ } = search;
-    Ok(held)
-}
-
-/// Adds the node at a place, who asked for it, who asked for that one, and so on.
-fn add_askers(
-    nodes: &[Found],
-    place: usize,
-    chain: &mut Vec<Node<PathId, NameId>>,
-) -> Result<(), AllocError> {
-    let mut at = Some(place);
-    for _ in 0..nodes.len() {
-        let Some(index) = at else {
-            return Ok(());
-        };
-        let Some(found) = nodes.get(index) else {
-            return Ok(());
-        };
-        chain.push(found.node)?;
-        at = found.asker;
-    }
-    Ok(())
-}
-
-/// The chain from what is kept, or from the root's module, to the node at a place.
-pub fn chain_in(
-    alloc: Global,
-    nodes: &[Found],
-    place: usize,
-) -> Result<Vec<Node<PathId, NameId>>, AllocError> {
-    let mut chain = Vec::new(alloc);
-    add_askers(nodes, place, &mut chain)?;
-    chain.reverse();
-    Ok(chain)
+    search.take_all(given)?;
+    let Search { held, passed: _ } = search;
+    let HeldNodes {
+        nodes,
+        places,
+        depths: _,
+    } = held;
+    let depths = Depths::of(alloc, &nodes)?;
+    Ok(HeldNodes {
+        nodes,
+        places,
+        depths,
+    })
 }

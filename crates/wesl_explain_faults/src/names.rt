@@ -2,9 +2,8 @@
 ghost use Rattle.std.specs.Prelude.{◌≡◌};
 ghost use Rattle.wesl_link_faults.specs.Searching.{IsReady};
 
-use crate::near::NearNames;
-use crate::texts::Texts;
 use std::alloc::{AllocError, Global};
+use wesl_explain_names::{NearNames, Texts, only_declared};
 use wesl_link_faults::given::Given;
 use wesl_link_symbols::ids::{NameId, PathId};
 use wesl_link_symbols::symbols::Symbol;
@@ -20,12 +19,15 @@ pub fn near_missing(
 ) -> Result<Option<Symbol<PathId, NameId>>, AllocError>
     requires ready { IsReady given.now }
 {
+    let Some(wanted) = near.wanted(texts.name(name)) else {
+        return Ok(None);
+    };
     let nearest = match given.table(path) {
-        Some(table) => near.nearest_seen(alloc, texts, texts.name(name), table)?,
+        Some(table) => near.nearest_seen(alloc, texts, wanted, table)?,
         None => None,
     };
     match nearest {
         Some(found) => Ok(Some(found.symbol)),
-        None => Ok(near.only_declared(given.tables, name)),
+        None => Ok(only_declared(given.tables, name)),
     }
 }

@@ -8,20 +8,19 @@ use crate::cures::{FaultCure, cures_of};
 use crate::faults::{FaultAt, Wrong, faults_at};
 use crate::held::{HeldNodes, held_nodes};
 use crate::names::near_missing;
-use crate::near::NearNames;
 use crate::targets::{Target, targets_of};
-use crate::texts::Texts;
 use crate::uses::{Use, look_up_of, uses_of};
-use crate::way::{question, way_of};
 use std::alloc::{AllocError, Global};
 use std::collections::HashMap;
+use wesl_explain_names::{NearNames, Texts};
 use wesl_explain_places::ReadModules;
+use wesl_explain_ways::{Rings, Way, no_way};
 use wesl_link_faults::asker::Asker;
 use wesl_link_faults::given::{Given, place_all};
 use wesl_link_faults::open::Finding;
 use wesl_link_faults::told::Flaw;
 use wesl_link_symbols::ids::{NameId, PathId};
-use wesl_link_symbols::symbols::{LookUp, Symbol};
+use wesl_link_symbols::symbols::Symbol;
 use wesl_link_symbols::table::Table;
 
 /// A fault of a link, with all that is told of it.
@@ -33,9 +32,7 @@ pub struct LinkFault {
     /// Who asks.
     pub uses: Vec<Use>,
     /// What the first that asks is led to: the names of modules that it asks for, one after the other.
-    pub way: Vec<Symbol<PathId, NameId>>,
-    /// The part of it that comes back, where it does.
-    pub ring: Vec<Symbol<PathId, NameId>>,
+    pub way: Way,
     /// A name that is near.
     pub near: Option<Symbol<PathId, NameId>>,
     /// What the name may stand for.
@@ -64,60 +61,29 @@ pub struct RefusedLink {
     pub until: HeldUntil,
 }
 
-/// What is asked for on the way of a look-up.
-fn questions(
-    alloc: Global,
-    look_ups: &[LookUp<PathId, NameId>],
-) -> Result<Vec<Symbol<PathId, NameId>>, AllocError> {
-    let mut asked = Vec::with_capacity(alloc, look_ups.len())?;
-    for look_up in look_ups {
-        asked.push(question(*look_up))?;
-    }
-    Ok(asked)
-}
-
 /// The way of the first that asks: nothing where it has no look-up.
 fn first_way(
     alloc: Global,
     given: &Given<'_>,
+    rings: &mut Rings,
     askers: &[Asker<PathId, NameId>],
-) -> Result<Vec<Symbol<PathId, NameId>>, AllocError>
+) -> Result<Way, AllocError>
     requires ready { IsReady given.now }
 {
     let Some(first) = askers.first() else {
-        return Ok(Vec::new(alloc));
+        return Ok(no_way(alloc));
     };
     match look_up_of(given, *first) {
-        Some(start) => {
-            let way = way_of(alloc, given, start)?;
-            questions(alloc, &way.look_ups)
-        }
-        None => Ok(Vec::new(alloc)),
+        Some(start) => rings.way_of(alloc, given, start),
+        None => Ok(no_way(alloc)),
     }
 }
 
-/// Where a symbol stands first.
-fn place_in(way: &[Symbol<PathId, NameId>], wanted: Symbol<PathId, NameId>) -> usize {
-    for (place, symbol) in way.iter().enumerate() {
-        if *symbol == wanted {
-            return place;
-        }
-    }
-    way.len()
-}
-
-/// The part of a way that comes back: from where its last question stood first.
-fn ring_of(
-    alloc: Global,
-    way: &[Symbol<PathId, NameId>],
-) -> Result<Vec<Symbol<PathId, NameId>>, AllocError> {
-    let Some((last, before)) = way.split_last() else {
-        return Ok(Vec::new(alloc));
-    };
-    match before.get(place_in(before, *last)..) {
-        Some(ring) => Vec::from_slice(alloc, ring),
-        None => Ok(Vec::new(alloc)),
-    }
+/// What was found while faults were told: near names, and rings.
+#[derive(Drop)]
+struct Seen {
+    near: NearNames,
+    rings: Rings,
 }
 
 /// The name of a module that is nearest to one that it lacks: none where the module imports the name in a ring.
@@ -172,16 +138,16 @@ fn told_of(
     texts: &Texts,
     read: &ReadModules,
     held: &HeldNodes,
-    near: &mut NearNames,
+    seen: &mut Seen,
     fault: &FaultAt,
 ) -> Result<LinkFault, AllocError>
     requires ready { IsReady given.now }
     ensures { IfOk result (λ told. link_view told ≡ fault_view fault.now) }
 {
     let uses = uses_of(alloc, given, read, held, &fault.askers)?;
-    let way = first_way(alloc, given, &fault.askers)?;
-    let ring = ring_of(alloc, &way)?;
-    let near = near_of(alloc, given, texts, near, fault.wrong, !ring.is_empty())?;
+    let way = first_way(alloc, given, &mut seen.rings, &fault.askers)?;
+    let is_ring = !way.ring.is_empty();
+    let near = near_of(alloc, given, texts, &mut seen.near, fault.wrong, is_ring)?;
     let targets = targets_at(alloc, given, read, fault.wrong)?;
     let cures = cures_of(alloc, fault.wrong.flaw)?;
     Ok(LinkFault {
@@ -189,7 +155,6 @@ fn told_of(
         absence: fault.absence,
         uses,
         way,
-        ring,
         near,
         targets,
         cures,
@@ -208,10 +173,13 @@ fn told_all(
     requires ready { IsReady given.now }
     ensures { IfOk result (λ told. map link_view told.items ≡ map fault_view found.now) }
 {
-    let mut near = NearNames::new();
+    let mut seen = Seen {
+        near: NearNames::new(),
+        rings: Rings::new(alloc),
+    };
     let mut faults = Vec::with_capacity(alloc, found.len())?;
     for fault in found {
-        faults.push(told_of(alloc, given, texts, read, held, &mut near, fault)?)?;
+        faults.push(told_of(alloc, given, texts, read, held, &mut seen, fault)?)?;
     }
     Ok(faults)
 }

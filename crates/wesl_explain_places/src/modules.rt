@@ -5,11 +5,11 @@ ghost use Rattle.wesl_tree_names.specs.Path.{path_view, is_relative};
 use std::alloc::{AllocError, Global};
 use std::collections::HashMap;
 use wesl_cond_choices::place::Place;
+use wesl_link_paths::PathNumbers;
 use wesl_link_symbols::ids::PathId;
 use wesl_link_symbols::keyed;
 use wesl_link_tables::imports::imports;
 use wesl_link_tables::marks::Mark;
-use wesl_link_tables::numbers::PathNumbers;
 use wesl_scope_spans::identifier_spans;
 use wesl_tree::{ModulePath, Span, TranslationUnit};
 
@@ -23,6 +23,13 @@ pub struct ReadModule {
     pub marks: Vec<Vec<Mark>>,
 }
 
+/// The numbers of the identifiers of a declaration that ask, and of those that are unclear.
+#[derive(Drop)]
+struct Asking {
+    asks: Vec<usize>,
+    unclear: Vec<usize>,
+}
+
 /// A module, and the places in it.
 #[derive(Drop)]
 struct Placed {
@@ -31,6 +38,8 @@ struct Placed {
     spans: Vec<Span>,
     /// of each declaration the number of the first of its identifiers
     starts: Vec<usize>,
+    /// of each declaration its identifiers for which there may be a fault
+    asking: Vec<Asking>,
     /// of each import where its statement stands
     imports: Vec<Place>,
 }
@@ -66,6 +75,29 @@ fn starts_of(
     Ok(starts)
 }
 
+/// The identifiers of a declaration that ask, and those that are unclear.
+fn asking_of(alloc: Global, marks: &[Mark]) -> Result<Asking, AllocError> {
+    let mut asks = Vec::new(alloc);
+    let mut unclear = Vec::new(alloc);
+    for (number, mark) in marks.iter().enumerate() {
+        match mark {
+            Mark::Asks(_) => asks.push(number)?,
+            Mark::Unclear(_) => unclear.push(number)?,
+            _ => {}
+        }
+    }
+    Ok(Asking { asks, unclear })
+}
+
+/// Of each declaration its identifiers for which there may be a fault.
+fn asking_in(alloc: Global, marks: &[Vec<Mark>]) -> Result<Vec<Asking>, AllocError> {
+    let mut asking = Vec::new(alloc);
+    for own in marks {
+        asking.push(asking_of(alloc, own)?)?;
+    }
+    Ok(asking)
+}
+
 /// Of each import of a module at a path where its statement stands.
 fn statements_of(
     alloc: Global,
@@ -75,7 +107,8 @@ fn statements_of(
     requires { is_relative (path_view path.now) ≡ false }
 {
     let mut numbers = PathNumbers::new(alloc);
-    let found = imports(alloc, &mut numbers, path, unit.imports())?;
+    let own = numbers.number(alloc, path)?;
+    let found = imports(alloc, &mut numbers, own, unit.imports())?;
     let mut statements = Vec::new(alloc);
     for import in &found {
         statements.push(import.place)?;
@@ -103,12 +136,14 @@ impl ReadModules {
     {
         let spans = identifier_spans(alloc, &module.unit)?;
         let starts = starts_of(alloc, &module.marks, spans.len())?;
+        let asking = asking_in(alloc, &module.marks)?;
         let imports = statements_of(alloc, path, &module.unit)?;
         keyed::put(&mut self.places, module.path, self.list.len())?;
         self.list.push(Placed {
             module,
             spans,
             starts,
+            asking,
             imports,
         })?;
         Ok(())
@@ -128,6 +163,28 @@ impl ReadModules {
             Some(placed) => Some(&placed.module),
             None => None,
         }
+    }
+
+    /// The number in a declaration of the one with this number of its identifiers that ask.
+    pub fn asking_identifier(
+        &self,
+        path: PathId,
+        declaration: usize,
+        number: usize,
+    ) -> Option<usize> {
+        let asking = self.placed(path)?.asking.get(declaration)?;
+        asking.asks.get(number).copied()
+    }
+
+    /// The number in a declaration of the one with this number of its identifiers that are unclear.
+    pub fn unclear_identifier(
+        &self,
+        path: PathId,
+        declaration: usize,
+        number: usize,
+    ) -> Option<usize> {
+        let asking = self.placed(path)?.asking.get(declaration)?;
+        asking.unclear.get(number).copied()
     }
 
     /// The span of the innermost node round an identifier, which has this number in the declaration with that one.

@@ -1,103 +1,113 @@
 //! Faults that are told as one: those of one ring, and a clash with the uses of its name.
 
 use std::alloc::{AllocError, Global};
-use wesl_explain_world::{Explanation, Fault, Flaw, LinkFault, NameId, PathId, Symbol, Use};
+use std::collections::HashMap;
+use wesl_explain_world::{Explanation, Flaw, LinkFault, Use, Wrong};
+use wesl_link_symbols::keyed;
 
-/// Whether a question is one of these.
-fn has(ring: &[Symbol<PathId, NameId>], wanted: Symbol<PathId, NameId>) -> bool {
-    for question in ring {
-        if *question == wanted {
-            return true;
+/// The faults so far by their numbers, those that are told as one together, and where those stand that others are told with.
+#[derive(Drop)]
+struct Apart {
+    groups: Vec<Vec<usize>>,
+    /// of each name that clashes
+    clashes: HashMap<Wrong, usize>,
+    /// of each ring by its number: rings have numbers in the order of their first faults
+    rings: Vec<usize>,
+}
+
+impl Apart {
+    /// Where those stand that a fault is told with, if there are any.
+    fn place_of(&self, link: &LinkFault) -> Option<usize> {
+        match (link.wrong.flaw, link.way.number) {
+            (Flaw::Unsure(name), _) => {
+                let clash = Wrong {
+                    flaw: Flaw::Clash(name),
+                    at: link.wrong.at,
+                };
+                keyed::value_at(&self.clashes, clash)
+            }
+            (_, Some(ring)) => self.rings.get(ring).copied(),
+            _ => None,
         }
     }
-    false
-}
 
-/// Whether two faults are of one ring.
-fn are_of_one_ring(first: &LinkFault, second: &LinkFault) -> bool {
-    match first.ring.first() {
-        Some(question) => { first.ring.len() == second.ring.len() && has(&second.ring, *question) }
-        None => false,
-    }
-}
-
-/// Whether the second fault is that the name of a clash is used.
-fn is_use_of(first: &LinkFault, second: &LinkFault) -> bool {
-    match (first.wrong.flaw, second.wrong.flaw) {
-        (Flaw::Clash(name), Flaw::Unsure(used)) => {
-            name == used && first.wrong.at == second.wrong.at
+    /// Puts down where a fault stands that others may be told with.
+    fn note(&mut self, link: &LinkFault, place: usize) -> Result<(), AllocError> {
+        if link.way.number.is_some() {
+            self.rings.push(place)?;
         }
-        _ => false,
-    }
-}
-
-/// Whether the second fault is told with the first.
-fn are_one(first: &Fault, second: &Fault) -> bool {
-    match (&first.link, &second.link) {
-        (Some(first), Some(second)) => {
-            are_of_one_ring(first, second) || is_use_of(first, second)
-        }
-        _ => false,
-    }
-}
-
-/// Whether others may be told with a fault, or it with another.
-fn may_be_joined(fault: &Fault) -> bool {
-    match &fault.link {
-        Some(link) => match link.wrong.flaw {
-            Flaw::Clash(_) | Flaw::Unsure(_) => true,
-            Flaw::Lacking(_) => !link.ring.is_empty(),
-            Flaw::NoModule | Flaw::Hidden(_) => false,
-        },
-        None => false,
-    }
-}
-
-/// Whether a fault is told with one of those before it.
-fn is_told(before: &[Fault], fault: &Fault) -> bool {
-    if !may_be_joined(fault) {
-        return false;
-    }
-    for earlier in before {
-        if are_one(earlier, fault) {
-            return true;
+        match link.wrong.flaw {
+            Flaw::Clash(_) => keyed::put(&mut self.clashes, link.wrong, place),
+            _ => Ok(()),
         }
     }
-    false
-}
 
-/// The faults that are told by themselves.
-pub fn apart(alloc: Global, told: &Explanation) -> Result<Vec<usize>, AllocError> {
-    let mut found = Vec::new(alloc);
-    for (index, fault) in told.faults.iter().enumerate() {
-        if let Some(before) = told.faults.get(..index) {
-            if !is_told(before, fault) {
-                found.push(index)?;
+    /// Adds a fault by itself.
+    fn add_alone(&mut self, alloc: Global, index: usize) -> Result<(), AllocError> {
+        let mut group = Vec::new(alloc);
+        group.push(index)?;
+        self.groups.push(group)?;
+        Ok(())
+    }
+
+    /// Adds a fault to those at a place.
+    fn join(&mut self, place: usize, index: usize) -> Result<(), AllocError> {
+        if let Some(group) = self.groups.get_mut(place) {
+            group.push(index)?;
+        }
+        Ok(())
+    }
+
+    /// Adds a fault of a link to those that it is told with, or by itself.
+    fn add(&mut self, alloc: Global, link: &LinkFault, index: usize) -> Result<(), AllocError> {
+        match self.place_of(link) {
+            Some(place) => self.join(place, index),
+            None => {
+                let place = self.groups.len();
+                self.note(link, place)?;
+                self.add_alone(alloc, index)
             }
         }
     }
-    Ok(found)
 }
 
-/// Adds who asks for a fault.
-fn add_uses(fault: &Fault, uses: &mut Vec<Use>) -> Result<(), AllocError> {
+/// The faults by their numbers, those that are told as one together.
+pub fn groups_of(alloc: Global, told: &Explanation) -> Result<Vec<Vec<usize>>, AllocError> {
+    let mut found = Apart {
+        groups: Vec::new(alloc),
+        clashes: HashMap::new(alloc),
+        rings: Vec::new(alloc),
+    };
+    for (index, fault) in told.faults.iter().enumerate() {
+        match &fault.link {
+            Some(link) => found.add(alloc, link, index)?,
+            None => found.add_alone(alloc, index)?,
+        }
+    }
+    let Apart {
+        groups,
+        clashes: _,
+        rings: _,
+    } = found;
+    Ok(groups)
+}
+
+/// Adds who asks for the fault with this number.
+fn add_uses(told: &Explanation, index: usize, uses: &mut Vec<Use>) -> Result<(), AllocError> {
+    let Some(fault) = told.faults.get(index) else {
+        return Ok(());
+    };
     match &fault.link {
         Some(link) => uses.extend_from_slice(&link.uses),
         None => Ok(()),
     }
 }
 
-/// Who asks for a fault, and for those behind it that are told with it.
-pub fn uses_of(alloc: Global, fault: &Fault, behind: &[Fault]) -> Result<Vec<Use>, AllocError> {
+/// Who asks for faults that are told as one.
+pub fn uses_of(alloc: Global, told: &Explanation, group: &[usize]) -> Result<Vec<Use>, AllocError> {
     let mut uses = Vec::new(alloc);
-    add_uses(fault, &mut uses)?;
-    if !may_be_joined(fault) {
-        return Ok(uses);
-    }
-    for other in behind {
-        if are_one(fault, other) {
-            add_uses(other, &mut uses)?;
-        }
+    for index in group {
+        add_uses(told, *index, &mut uses)?;
     }
     Ok(uses)
 }

@@ -1,7 +1,7 @@
 //! Chains, and what was loaded.
 
 use std::alloc::{AllocError, Global};
-use wesl_explain_world::{Chain, Explanation, NameId, Node, PathId, Symbol, chain_in};
+use wesl_explain_world::{Chain, Cut, Explanation, NameId, Node, PathId, Symbol};
 
 // How many steps of a chain are written before and after those that are left out.
 const FIRST: usize = 3;
@@ -24,7 +24,7 @@ pub fn chain_of(
     name: Option<NameId>,
 ) -> Result<Chain, AllocError> {
     let Some(until) = &told.until else {
-        return told.chain(alloc, path, name);
+        return Cut::of(alloc, &told.chain(alloc, path, name)?);
     };
     let node = match name {
         Some(name) => Node::Item(Symbol { path, name }),
@@ -40,8 +40,8 @@ pub fn chain_at(
     place: Option<usize>,
 ) -> Result<Chain, AllocError> {
     match (&told.until, place) {
-        (Some(until), Some(place)) => chain_in(alloc, &until.held.nodes, place),
-        _ => Ok(Vec::new(alloc)),
+        (Some(until), Some(place)) => until.held.chain(alloc, place),
+        _ => Ok(Cut::new(alloc)),
     }
 }
 
@@ -93,20 +93,36 @@ fn push_nodes(
     Ok(())
 }
 
+/// The steps of a chain from one on, as far as it has so many.
+fn steps_from(
+    steps: &[Node<PathId, NameId>],
+    from: usize,
+    count: usize,
+) -> &[Node<PathId, NameId>] {
+    match steps.get(from..) {
+        Some(rest) => match rest.get(..count) {
+            Some(first) => first,
+            None => rest,
+        },
+        None => &[],
+    }
+}
+
 /// Writes a chain, without its middle where it is long.
-pub fn push_chain(
-    out: &mut String,
-    told: &Explanation,
-    chain: &[Node<PathId, NameId>],
-) -> Result<(), AllocError> {
-    let Some((first, rest)) = chain.split_first() else {
+pub fn push_chain(out: &mut String, told: &Explanation, chain: &Chain) -> Result<(), AllocError> {
+    let Some(first) = chain.first.first() else {
         return Ok(());
     };
     push_node(out, told, *first)?;
-    if rest.len() <= FIRST + LAST {
-        return push_nodes(out, told, rest);
+    if chain.len() <= 1 + FIRST + LAST {
+        return push_nodes(out, told, steps_from(&chain.first, 1, FIRST + LAST));
     }
-    push_nodes(out, told, &rest[..FIRST])?;
+    push_nodes(out, told, steps_from(&chain.first, 1, FIRST))?;
     out.push_str(" -> ..")?;
-    push_nodes(out, told, &rest[rest.len() - LAST..])
+    let ending = chain.ending();
+    push_nodes(
+        out,
+        told,
+        steps_from(ending, ending.len().saturating_sub(LAST), LAST),
+    )
 }

@@ -26,7 +26,7 @@ fn condition_text(link: &LinkFault) -> &'static str {
 
 /// What another name helps.
 fn name_text(link: &LinkFault, is_kept: bool) -> &'static str {
-    if !link.ring.is_empty() {
+    if !link.way.ring.is_empty() {
         return "declare it in one of these modules";
     }
     if is_kept {

@@ -1,6 +1,6 @@
 //! Faults as text.
 
-use crate::apart::{apart, uses_of};
+use crate::apart::{groups_of, uses_of};
 use crate::cures::cure_text;
 use crate::headings::{is_kept, push_head};
 use crate::places::{Places, file_of, push_span};
@@ -28,53 +28,51 @@ fn push_line(
     line: &FaultLine,
 ) -> Result<(), AllocError> {
     out.push_str(line.text.as_str())?;
-    push_span(out, alloc, line, file_of(told, places, line))?;
+    let file = file_of(alloc, told, places, line)?;
+    push_span(out, alloc, line, file)?;
     out.push_str("\n")?;
     Ok(())
 }
 
-/// Writes a fault, with who asks for it and what helps. `behind` are the faults after it.
+/// Writes a fault, with who asks for it and for those that are told with it, and what helps.
 fn push_fault(
     out: &mut String,
     alloc: Global,
     told: &Explanation,
     places: &Places<'_>,
     fault: &Fault,
-    behind: &[Fault],
+    group: &[usize],
 ) -> Result<(), AllocError> {
     let Some(link) = &fault.link else {
         return push_line(out, alloc, told, places, &fault.line);
     };
-    let uses = uses_of(alloc, fault, behind)?;
+    let uses = uses_of(alloc, told, group)?;
     push_head(out, alloc, told, places, fault, link)?;
     push_uses(out, alloc, told, places, &uses)?;
     push_cures(out, link)
 }
 
-/// The faults from one on.
-fn behind_of(faults: &[Fault], index: usize) -> Option<(&Fault, &[Fault])> {
-    match faults.get(index..) {
-        Some(rest) => rest.split_first(),
-        None => None,
-    }
+/// The first of faults that are told as one.
+fn first_of<'t>(told: &'t Explanation, group: &[usize]) -> Option<&'t Fault> {
+    told.faults.get(*group.first()?)
 }
 
-/// Writes the fault with an index, under a number.
+/// Writes faults that are told as one, under a number.
 fn push_numbered(
     out: &mut String,
     alloc: Global,
     told: &Explanation,
     places: &Places<'_>,
     number: usize,
-    index: usize,
+    group: &[usize],
 ) -> Result<(), AllocError> {
-    let Some((fault, behind)) = behind_of(&told.faults, index) else {
+    let Some(fault) = first_of(told, group) else {
         return Ok(());
     };
     let number = number.to_string(alloc)?;
     out.push_str(number.as_str())?;
     out.push_str("  ")?;
-    push_fault(out, alloc, told, places, fault, behind)
+    push_fault(out, alloc, told, places, fault, group)
 }
 
 /// Writes the faults, each with its number.
@@ -84,10 +82,10 @@ pub fn push_faults(
     told: &Explanation,
     places: &Places<'_>,
 ) -> Result<(), AllocError> {
-    let indexes = apart(alloc, told)?;
-    push_heading(out, alloc, "Refused, faults", indexes.len())?;
-    for (place, index) in indexes.iter().enumerate() {
-        push_numbered(out, alloc, told, places, place.saturating_add(1), *index)?;
+    let groups = groups_of(alloc, told)?;
+    push_heading(out, alloc, "Refused, faults", groups.len())?;
+    for (place, group) in groups.iter().enumerate() {
+        push_numbered(out, alloc, told, places, place.saturating_add(1), group)?;
     }
     Ok(())
 }

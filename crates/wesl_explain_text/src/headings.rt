@@ -3,14 +3,15 @@
 use crate::chains::push_symbol;
 use crate::places::{ModuleFile, Places, push_place, push_span};
 use crate::text::push_quoted;
+use serde_json::Value;
 use std::alloc::{AllocError, Global};
 use wesl_explain_world::{
-    Asker, Explanation, Fault, FaultLine, Flaw, LinkFault, NameId, PathId, Symbol, Target,
+    Asker, Explanation, Fault, FaultLine, Flaw, LinkFault, NameId, PathId, Symbol, Target, Way,
 };
 
 /// The text that a fault's line has at a place of its list.
-fn argument(line: &FaultLine, place: usize) -> &str {
-    match line.value.get("args") {
+fn argument(line: &Value, place: usize) -> &str {
+    match line.get("args") {
         Some(arguments) => match arguments.get(place) {
             Some(text) => text.as_str().unwrap_or(""),
             None => "",
@@ -20,8 +21,8 @@ fn argument(line: &FaultLine, place: usize) -> &str {
 }
 
 /// The name of a fault.
-fn fault_name(line: &FaultLine) -> &str {
-    match line.value.get("fault") {
+fn fault_name(line: &Value) -> &str {
+    match line.get("fault") {
         Some(text) => text.as_str().unwrap_or(""),
         None => "",
     }
@@ -76,20 +77,30 @@ fn push_near_name(
     Ok(())
 }
 
-/// Writes paths, each after an arrow, and the first once more.
-fn push_ring(
+/// Writes paths, each before an arrow.
+fn push_paths(
     out: &mut String,
     told: &Explanation,
-    ring: &[Symbol<PathId, NameId>],
+    symbols: &[Symbol<PathId, NameId>],
 ) -> Result<(), AllocError> {
-    for symbol in ring {
+    for symbol in symbols {
         out.push_str(told.path(symbol.path))?;
         out.push_str(" -> ")?;
     }
-    if let Some(first) = ring.first() {
-        out.push_str(told.path(first.path))?;
-    }
     Ok(())
+}
+
+/// Writes the paths of a ring, each before an arrow, and the first once more.
+fn push_ring(out: &mut String, told: &Explanation, way: &Way) -> Result<(), AllocError> {
+    push_paths(out, told, &way.ring.first)?;
+    if way.ring.left_out > 0 {
+        out.push_str(".. -> ")?;
+        push_paths(out, told, &way.ring.last)?;
+    }
+    match way.ring.first.first() {
+        Some(first) => out.push_str(told.path(first.path)),
+        None => Ok(()),
+    }
 }
 
 /// Writes that a name is missing.
@@ -99,12 +110,12 @@ fn push_missing(
     link: &LinkFault,
     name: NameId,
 ) -> Result<(), AllocError> {
-    if !link.ring.is_empty() {
+    if !link.way.ring.is_empty() {
         push_quoted(out, told.name(name))?;
         out.push_str(" is imported in a ring and declared nowhere: ")?;
-        return push_ring(out, told, &link.ring);
+        return push_ring(out, told, &link.way);
     }
-    if is_kept(link) && link.way.len() <= 1 {
+    if is_kept(link) && link.way.asked.len() <= 1 {
         out.push_str("the root ")?;
         out.push_str(told.path(link.wrong.at))?;
         out.push_str(" has no ")?;
@@ -159,17 +170,15 @@ fn push_refused(
     out.push_str(count.as_str())
 }
 
-/// Writes why no module is at a path.
-fn push_absent(
+/// Writes why no module is at a path. `line` is the value of the fault's line.
+fn push_absence(
     out: &mut String,
     alloc: Global,
-    told: &Explanation,
     file: Option<ModuleFile<'_>>,
     fault: &Fault,
-    at: PathId,
+    line: &Value,
+    path: &str,
 ) -> Result<(), AllocError> {
-    let line = &fault.line;
-    let path = told.path(at);
     match fault_name(line) {
         "ModuleNotFound" => {
             out.push_str("no module ")?;
@@ -192,6 +201,21 @@ fn push_absent(
         _ => push_refused(out, alloc, file, fault, path)?,
     }
     Ok(())
+}
+
+/// Writes why no module is at a path.
+fn push_absent(
+    out: &mut String,
+    alloc: Global,
+    told: &Explanation,
+    file: Option<ModuleFile<'_>>,
+    fault: &Fault,
+    at: PathId,
+) -> Result<(), AllocError> {
+    let line = fault.line.value(alloc)?;
+    let pushed = push_absence(out, alloc, file, fault, &line, told.path(at));
+    drop(line);
+    pushed
 }
 
 /// Writes what is wrong.

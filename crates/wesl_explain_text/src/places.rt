@@ -87,7 +87,9 @@ pub(crate) fn push_span(
     line: &FaultLine,
     file: Option<ModuleFile<'_>>,
 ) -> Result<(), AllocError> {
-    let span = span_of(line);
+    let value = line.value(alloc)?;
+    let span = span_of(&value);
+    drop(value);
     match file {
         Some(file) => push_file_place(out, alloc, " at ", Some(file), span),
         None => push_bytes(out, alloc, span),
@@ -96,11 +98,20 @@ pub(crate) fn push_span(
 
 /// The file of the module in which a fault stands that no module is asked for. There is one such fault at most.
 pub(crate) fn file_of<'p>(
+    alloc: Global,
     told: &Explanation,
     places: &Places<'p>,
     line: &FaultLine,
-) -> Option<ModuleFile<'p>> {
-    let module = line.value.get("module")?.as_str()?;
+) -> Result<Option<ModuleFile<'p>>, AllocError> {
+    let value = line.value(alloc)?;
+    let file = file_at(told, places, &value);
+    drop(value);
+    Ok(file)
+}
+
+// The file of the module that a line tells.
+fn file_at<'p>(told: &Explanation, places: &Places<'p>, line: &Value) -> Option<ModuleFile<'p>> {
+    let module = line.get("module")?.as_str()?;
     for (index, path) in told.paths.iter().enumerate() {
         if path.as_str() == module {
             return places.file(PathId(index));
@@ -110,8 +121,8 @@ pub(crate) fn file_of<'p>(
 }
 
 // The bytes at which a fault stands.
-fn span_of(line: &FaultLine) -> Option<Span> {
-    let span = line.value.get("span")?;
+fn span_of(line: &Value) -> Option<Span> {
+    let span = line.get("span")?;
     Some(Span {
         start: number_at(span, 0)?,
         end: number_at(span, 1)?,

@@ -4,12 +4,11 @@ use crate::explanation::UnusedImport;
 use crate::world::World;
 use std::alloc::{AllocError, Global};
 use std::collections::HashMap;
-use wesl_explain_faults::Texts;
+use wesl_explain_names::{Below, Texts};
 use wesl_link_symbols::ids::{NameId, PathId};
 use wesl_link_symbols::keyed;
-use wesl_link_symbols::symbols::{Import, Symbol};
+use wesl_link_symbols::symbols::Symbol;
 use wesl_link_symbols::table::{Declaration, Table};
-use wesl_tree::ModulePath;
 
 /// Names of modules that are asked for, each once, in the order in which they were found.
 #[derive(Drop)]
@@ -47,30 +46,35 @@ impl Asked {
         Ok(())
     }
 
-    /// What all declarations of a module ask for, held or not.
-    fn put_all(&mut self, table: &Table) -> Result<(), AllocError> {
+    /// What the held declarations of a module ask for, or all that it has.
+    fn put_declared(
+        &mut self,
+        world: &World,
+        table: &Table,
+        is_whole: bool,
+    ) -> Result<(), AllocError> {
         for declaration in table.declarations() {
-            self.put_references(declaration)?;
-        }
-        Ok(())
-    }
-
-    /// What the held declarations of a module ask for.
-    fn put_held(&mut self, world: &World, table: &Table) -> Result<(), AllocError> {
-        for declaration in table.declarations() {
-            if world.holds(table.path(), declaration.name()) {
+            if is_whole || world.holds(table.path(), declaration.name()) {
                 self.put_references(declaration)?;
             }
         }
         Ok(())
     }
 
+    /// What the import with an index asks for.
+    fn put_target(&mut self, table: &Table, index: usize) -> Result<(), AllocError> {
+        match table.imports().get(index) {
+            Some(import) => self.put(import.path, import.item),
+            None => Ok(()),
+        }
+    }
+
     /// What a module asks for where it is asked for a name that it imports.
     fn put_targets(&mut self, table: &Table, name: NameId) -> Result<(), AllocError> {
-        for import in table.imports() {
-            if import.bound == name {
-                self.put(import.path, import.item)?;
-            }
+        let mut at = table.latest_import_of(name);
+        'targets: while let Some(index) = at {
+            self.put_target(table, index)?;
+            at = table.earlier_import_of(index, name);
         }
         Ok(())
     }
@@ -85,7 +89,7 @@ fn asked_in(alloc: Global, world: &World) -> Result<Asked, AllocError> {
         }
     }
     for table in world.linked.tables() {
-        asked.put_held(world, table)?;
+        asked.put_declared(world, table, false)?;
     }
     Ok(asked)
 }
@@ -104,35 +108,6 @@ fn follow(world: &World, asked: &mut Asked) -> Result<(), AllocError> {
     Ok(())
 }
 
-/// Whether a path leads through the item of a module at another path.
-fn leads_through(path: &ModulePath, base: &ModulePath, item: &str) -> bool {
-    match path.components.get(base.components.len()) {
-        Some(next) => next.as_str() == item && path.starts_with(base),
-        None => false,
-    }
-}
-
-/// Whether something that is asked for stands in a module that the import leads to.
-fn is_way(texts: &Texts, asked: &Asked, import: &Import<PathId, NameId>) -> bool {
-    let Some(base) = texts.module(import.path) else {
-        return false;
-    };
-    let item = texts.name(import.item);
-    for symbol in &asked.found {
-        if let Some(path) = texts.module(symbol.path) {
-            if leads_through(path, base, item) {
-                return true;
-            }
-        }
-    }
-    false
-}
-
-/// Whether what declarations of its module ask for is what an import names, or stands in a module that it leads to.
-fn is_used_by(texts: &Texts, asked: &Asked, import: &Import<PathId, NameId>) -> bool {
-    asked.has(import.path, import.item) || is_way(texts, asked, import)
-}
-
 /// Adds the imports of a module that nothing uses: neither a held declaration of it, nor a look-up of their name from elsewhere.
 fn add_unused(
     alloc: Global,
@@ -143,17 +118,19 @@ fn add_unused(
     unused: &mut Vec<UnusedImport>,
 ) -> Result<(), AllocError> {
     let mut own = Asked::new(alloc);
-    own.put_held(world, table)?;
+    own.put_declared(world, table, false)?;
+    let mut own = Below::of(alloc, texts, &own.found)?;
     let mut whole = Asked::new(alloc);
-    whole.put_all(table)?;
+    whole.put_declared(world, table, true)?;
+    let mut whole = Below::of(alloc, texts, &whole.found)?;
     for import in table.imports() {
-        if !all.has(table.path(), import.bound) && !is_used_by(texts, &own, import) {
+        if !all.has(table.path(), import.bound) && !own.leads_to(texts, import)? {
             unused.push(UnusedImport {
                 path: table.path(),
                 bound: import.bound,
                 from: import.path,
                 item: import.item,
-                is_used_unheld: is_used_by(texts, &whole, import),
+                is_used_unheld: whole.leads_to(texts, import)?,
             })?;
         }
     }

@@ -5,7 +5,6 @@ ghost use Rattle.wesl_explain_world.specs.Why.{HasItsReasons};
 ghost use Rattle.wesl_explain_world.specs.Explained.{ExplainsHeld, ExplainsLink, TellsAll};
 
 use crate::asking::unused_imports;
-use crate::clashing::clashes_in;
 use crate::explanation::{Explanation, Fault, HeldDeclaration};
 use crate::faults::fault_of;
 use crate::freeing::free_in;
@@ -17,6 +16,7 @@ use crate::world::{World, world_of};
 use bumpalo::Bump;
 use json::Scratch;
 use std::alloc::{AllocError, Global};
+use wesl_explain_clashes::clashes_in;
 use wesl_explain_faults::Texts;
 use wesl_link::{LinkRequest, Resolutions, link_at};
 use wesl_link_symbols::ids::PathId;
@@ -122,13 +122,14 @@ fn world_in(
 {
     let order = found.module_order(alloc)?;
     let mut loader = TableLoader::new(alloc, sources, false);
+    let root = loader.numbers.path(alloc, request.root)?;
     let world = world_of(alloc, &mut loader, request, &order)?;
     let TableLoader {
         sources: _,
         numbers,
         read: _,
     } = loader;
-    let texts = Texts::new(alloc, numbers)?;
+    let texts = Texts::new(alloc, numbers, root, world.linked.tables())?;
     Ok((world, texts))
 }
 

@@ -4,12 +4,10 @@ ghost use Rattle.wesl_tree_names.specs.Path.{is_relative};
 
 use crate::explanation::{Fault, FaultLine};
 use crate::sources::Sources;
-use serde_json::{Value, put};
 use std::alloc::{AllocError, Global};
 use std::str::from_utf8;
 use wesl_cond::Features;
 use wesl_cond_faults::faults;
-use wesl_json::value_of_text;
 use wesl_program::{Refusal, refusal_line};
 use wesl_tree::{Diagnostic, ModulePath, TranslationUnit};
 
@@ -18,8 +16,8 @@ fn text_of(alloc: Global, diagnostic: &Diagnostic) -> Result<String, AllocError>
     format!(in alloc; "{diagnostic}")
 }
 
-/// The value of the line of a diagnostic, which is let go.
-fn line_of(alloc: Global, diagnostic: Diagnostic) -> Result<Value, AllocError> {
+/// The line of a diagnostic, which is let go.
+fn line_of(alloc: Global, diagnostic: Diagnostic) -> Result<String, AllocError> {
     let line = refusal_line(
         alloc,
         Refusal {
@@ -28,26 +26,8 @@ fn line_of(alloc: Global, diagnostic: Diagnostic) -> Result<Value, AllocError> {
         },
     );
     match from_utf8(line.as_bytes()) {
-        Ok(text) => value_of_text(alloc, text).ok().ok_or(AllocError),
+        Ok(text) => String::from_str(alloc, text),
         Err(_) => Err(AllocError),
-    }
-}
-
-/// With the declaration that is told.
-fn with_declaration(
-    alloc: Global,
-    value: Value,
-    declaration: Option<String>,
-) -> Result<Value, AllocError> {
-    let Some(name) = declaration else {
-        return Ok(value);
-    };
-    match value {
-        Value::Object(mut members) => {
-            put(&mut members, alloc, "declaration", Value::String(name))?;
-            Ok(Value::Object(members))
-        }
-        other => Ok(other),
     }
 }
 
@@ -55,9 +35,12 @@ fn with_declaration(
 pub fn fault_line_of(alloc: Global, mut diagnostic: Diagnostic) -> Result<FaultLine, AllocError> {
     let text = text_of(alloc, &diagnostic)?;
     let declaration = diagnostic.declaration.take();
-    let value = line_of(alloc, diagnostic)?;
-    let value = with_declaration(alloc, value, declaration)?;
-    Ok(FaultLine { value, text })
+    let line = line_of(alloc, diagnostic)?;
+    Ok(FaultLine {
+        line,
+        declaration,
+        text,
+    })
 }
 
 /// A fault of which its line is told alone.

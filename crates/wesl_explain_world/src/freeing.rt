@@ -18,6 +18,9 @@ fn nearest(
     names: &mut NearNames,
     wanted: &str,
 ) -> Result<Option<(PathId, NameId)>, AllocError> {
+    let Some(wanted) = names.wanted(wanted) else {
+        return Ok(None);
+    };
     let mut best = None;
     for path in &world.order {
         if let Some(table) = world.table(*path) {

@@ -3,7 +3,6 @@
 #![tactic(auto)]
 
 mod asking;
-mod clashing;
 mod explaining;
 mod explanation;
 mod faults;
@@ -15,14 +14,11 @@ mod sources;
 mod world;
 
 pub use explaining::explained;
-pub use explanation::{
-    Cure, Explanation, Fault, FaultLine, FreeName, HeldDeclaration, Meaning, NameClash, Read,
-    UnusedImport,
-};
+pub use explanation::{Explanation, Fault, FaultLine, FreeName, HeldDeclaration, UnusedImport};
+pub use wesl_explain_clashes::{Clashes, Cure, Meaning, NameClash, Read};
 pub use wesl_explain_faults::{
-    Asker, FaultCure, Flaw, HeldUntil, LinkFault, Target, Use, Wrong, chain_in,
+    Asker, Chain, Cut, FaultCure, Flaw, HeldUntil, LinkFault, Target, Use, Way, Wrong,
 };
 pub use wesl_link_reasons::node::Node;
 pub use wesl_link_symbols::ids::{NameId, PathId};
 pub use wesl_link_symbols::symbols::Symbol;
-pub use world::Chain;

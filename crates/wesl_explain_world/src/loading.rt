@@ -83,9 +83,9 @@ impl<'t> TableLoader<'t> {
 
 /// The path of a number.
 fn path_of(alloc: Global, numbers: &Numbers, id: PathId) -> Option<ModulePath> {
-    match numbers.paths.path(id) {
-        Some(path) => path.try_clone(alloc).ok(),
-        None => None,
+    match numbers.paths.path(alloc, id) {
+        Ok(path) => path,
+        Err(_) => None,
     }
 }
 

@@ -12,7 +12,7 @@ use crate::world::{kept_names, root_table};
 use std::alloc::{AllocError, Global};
 use wesl_explain_faults::{
     Asker, FaultCure, Flaw, HeldUntil, LinkFault, NearNames, ReadModules, RefusedLink, Texts, Use,
-    Wrong, refused_link,
+    Wrong, no_way, refused_link,
 };
 use wesl_link::LinkRequest;
 use wesl_link_faults::absence::Absence;
@@ -21,19 +21,21 @@ use wesl_link_faults::open_table;
 use wesl_link_symbols::ids::{NameId, PathId};
 use wesl_link_symbols::table::Table;
 use wesl_program_bundle::BundleModule;
-use wesl_tree::{Diagnostic, Error, ImportError, ModulePath, ResolveError};
+use wesl_tree::{Diagnostic, Error, ImportError, Interner, ModulePath, ResolveError};
 
 /// What was found when a link went on behind its faults.
 type Found = Opened<ResolveError>;
 
-/// The texts of the paths of a bundle's modules.
-pub fn listed_paths(
-    alloc: Global,
-    modules: &[BundleModule<'_>],
-) -> Result<Vec<String>, AllocError> {
-    let mut listed = Vec::with_capacity(alloc, modules.len())?;
+/// The text of the path of a module.
+fn listed_path(alloc: Global, module: &BundleModule<'_>) -> Result<String, AllocError> {
+    module.path.to_text(alloc).ok().ok_or(AllocError)
+}
+
+/// The texts of the paths of a bundle's modules, each once.
+pub fn listed_paths(alloc: Global, modules: &[BundleModule<'_>]) -> Result<Interner, AllocError> {
+    let mut listed = Interner::new(alloc);
     for module in modules {
-        listed.push(module.path.to_text(alloc).ok().ok_or(AllocError)?)?;
+        listed.number(listed_path(alloc, module)?.as_str())?;
     }
     Ok(listed)
 }
@@ -132,7 +134,7 @@ struct Around<'a, 't> {
     texts: &'a Texts,
     sources: &'a mut Sources<'t>,
     /// the texts of the paths of the bundle's modules
-    listed: &'a [String],
+    listed: &'a Interner,
     max_modules: usize,
 }
 
@@ -144,17 +146,19 @@ fn is_not_found(error: &Error) -> bool {
     }
 }
 
-/// A listed path with a number.
-fn listed_at(
+/// The listed path that is nearest to one at which no module is, if one is near.
+fn near_path(
     alloc: Global,
-    listed: &[String],
-    number: Option<usize>,
+    around: &Around<'_, '_>,
+    near: &mut NearNames,
+    error: &Error,
+    at: PathId,
 ) -> Result<Option<String>, AllocError> {
-    match number {
-        Some(number) => match listed.get(number) {
-            Some(text) => Ok(Some(text.clone()?)),
-            None => Ok(None),
-        },
+    if !is_not_found(error) {
+        return Ok(None);
+    }
+    match near.wanted(around.texts.path(at)) {
+        Some(wanted) => near.nearest_path(alloc, wanted, around.listed),
         None => Ok(None),
     }
 }
@@ -163,21 +167,20 @@ fn listed_at(
 fn named_module(
     alloc: Global,
     texts: &Texts,
-    listed: &[String],
+    listed: &Interner,
     link: &LinkFault,
 ) -> Result<Option<String>, AllocError> {
-    let Some(last) = link.way.last() else {
+    let Some(last) = link.way.asked.ending().last() else {
         return Ok(None);
     };
     let mut wanted = String::from_str(alloc, texts.path(last.path))?;
     wanted.push_str("::")?;
     wanted.push_str(texts.name(last.name))?;
-    for path in listed {
-        if *path == wanted {
-            return Ok(Some(wanted));
-        }
+    if listed.find(wanted.as_str()).is_some() {
+        Ok(Some(wanted))
+    } else {
+        Ok(None)
     }
-    Ok(None)
 }
 
 /// The diagnostic of a fault: a name that is wrong is told with its module.
@@ -234,13 +237,7 @@ fn link_fault(
     if let Some(cure) = cures_of_absence(&error) {
         link.cures.push(cure)?;
     }
-    let near_path = if is_not_found(&error) {
-        let wanted = around.texts.path(link.wrong.at);
-        near.nearest_path(alloc, wanted, around.listed)?
-    } else {
-        None
-    };
-    let near_path = listed_at(alloc, around.listed, near_path)?;
+    let near_path = near_path(alloc, around, near, &error, link.wrong.at)?;
     let named_module = named_module(alloc, around.texts, around.listed, &link)?;
     let conditions = conditions_at(alloc, around, &link)?;
     let diagnostic = diagnostic_of(alloc, around.texts, link.wrong, error)?;
@@ -285,8 +282,7 @@ fn root_fault(alloc: Global, root: PathId) -> Result<LinkFault, AllocError> {
         },
         absence: None,
         uses,
-        way: Vec::new(alloc),
-        ring: Vec::new(alloc),
+        way: no_way(alloc),
         near: None,
         targets: Vec::new(alloc),
         cures: Vec::new(alloc),
@@ -386,8 +382,13 @@ struct Loaded<'t> {
     read: ReadModules,
 }
 
-/// What a loader has loaded.
-fn loaded_of(alloc: Global, loader: TableLoader<'_>) -> Result<Loaded<'_>, AllocError> {
+/// What a loader has loaded: the modules of these tables, and the root.
+fn loaded_of<'t>(
+    alloc: Global,
+    loader: TableLoader<'t>,
+    root: PathId,
+    tables: &[Table],
+) -> Result<Loaded<'t>, AllocError> {
     let TableLoader {
         sources,
         numbers,
@@ -395,7 +396,7 @@ fn loaded_of(alloc: Global, loader: TableLoader<'_>) -> Result<Loaded<'_>, Alloc
     } = loader;
     Ok(Loaded {
         sources,
-        texts: Texts::new(alloc, numbers)?,
+        texts: Texts::new(alloc, numbers, root, tables)?,
         read: match read {
             Some(read) => read,
             None => ReadModules::new(alloc),
@@ -409,7 +410,7 @@ fn explain_found(
     request: &LinkRequest<'_>,
     diagnostic: Diagnostic,
     loaded: Loaded<'_>,
-    listed: &[String],
+    listed: &Interner,
     root: PathId,
     found: Found,
     kept: &[NameId],
@@ -486,7 +487,7 @@ pub fn explain_refusal(
     request: &LinkRequest<'_>,
     diagnostic: Diagnostic,
     sources: Sources<'_>,
-    listed: &[String],
+    listed: &Interner,
 ) -> Result<Explanation, AllocError>
     requires { is_relative (path_view request.now.root.now) ≡ false }
     ensures { IfOk result TellsFaults }
@@ -494,11 +495,16 @@ pub fn explain_refusal(
     let mut loader = TableLoader::new(alloc, sources, true);
     let root = loader.numbers.path(alloc, request.root)?;
     let found = opened_link(alloc, request, &mut loader)?;
-    let loaded = loaded_of(alloc, loader)?;
     match found {
-        Some((found, kept)) => explain_found(
-            alloc, request, diagnostic, loaded, listed, root, found, &kept,
-        ),
-        None => explain_root(alloc, request, diagnostic, loaded, root),
+        Some((found, kept)) => {
+            let loaded = loaded_of(alloc, loader, root, &found.tables)?;
+            explain_found(
+                alloc, request, diagnostic, loaded, listed, root, found, &kept,
+            )
+        }
+        None => {
+            let loaded = loaded_of(alloc, loader, root, &[])?;
+            explain_root(alloc, request, diagnostic, loaded, root)
+        }
     }
 }

@@ -23,7 +23,7 @@ use wesl_tree::ModulePath;
 use wesl_tree_names::{Diagnostic, Error, ResolveError};
 
 /// Who asked for something, and who asked for that one: the first is there without being asked for.
-pub type Chain = Vec<Node<PathId, NameId>>;
+pub type Steps = Vec<Node<PathId, NameId>>;
 
 /// What a link reached, and why.
 #[derive(Drop)]
@@ -44,7 +44,7 @@ fn symbol_chain(
     reasons: &Reasons,
     path: PathId,
     name: NameId,
-) -> Result<Chain, AllocError>
+) -> Result<Steps, AllocError>
     ensures { IfOk result (λ chain. TellsWhy reasons.now (node_of path (Some name)) chain.items) }
 {
     match reasons.of_symbol(alloc, Symbol { path, name })? {
@@ -54,7 +54,7 @@ fn symbol_chain(
 }
 
 /// Why a module is loaded: a chain without steps where it is not.
-fn module_chain(alloc: Global, reasons: &Reasons, path: PathId) -> Result<Chain, AllocError>
+fn module_chain(alloc: Global, reasons: &Reasons, path: PathId) -> Result<Steps, AllocError>
     ensures { IfOk result (λ chain. TellsWhy reasons.now (node_of path None) chain.items) }
 {
     match reasons.of_module(alloc, path)? {
@@ -69,7 +69,7 @@ pub fn reason_of(
     reasons: &Reasons,
     path: PathId,
     name: Option<NameId>,
-) -> Result<Chain, AllocError>
+) -> Result<Steps, AllocError>
     ensures { IfOk result (λ chain. TellsWhy reasons.now (node_of path name) chain.items) }
 {
     match name {
@@ -129,8 +129,8 @@ fn numbers_of(
 ) -> Result<Vec<PathId>, AllocError> {
     let mut paths = Vec::new(alloc);
     for path in order {
-        if let Some(id) = loader.numbers.paths.find(path) {
-            paths.push(id)?;
+        if !path.is_relative() {
+            paths.push(loader.numbers.path(alloc, path)?)?;
         }
     }
     Ok(paths)

@@ -1,6 +1,6 @@
 use Rattle.std.proofs.Common.{◌-◌, ◌^◌, vec_len}
 use Rattle.wesl_link_faults.specs.Keys.{AreKeys}
-use Rattle.wesl_explain_faults.proofs.way.way_of.Given as goal
+use Rattle.wesl_explain_ways.proofs.way.Rings.walk.Given as goal
 
 abbrev pub invariant-hops : goal.invariant-hops
 invariant-hops l = AreKeys l.asked

@@ -6,6 +6,7 @@ use strsim::levenshtein;
 use wesl_link_symbols::ids::{NameId, PathId};
 use wesl_link_symbols::symbols::Symbol;
 use wesl_link_symbols::table::Table;
+use wesl_tree::Interner;
 
 // How many edits may lead from one name to the other, and how many where the name has three letters or fewer.
 const EDITS: usize = 2;
@@ -17,15 +18,15 @@ const FEW_LETTERS: usize = 3;
 // A longer name is not compared.
 const LONGEST: usize = 64;
 
-// How many names are looked at in all, and how many of them are compared letter by letter.
-const LOOKS: usize = 4_000_000;
+// For how many names near ones are looked for, and how many are compared with these letter by letter.
+const NAMES: usize = 32;
 
 const COMPARISONS: usize = 50_000;
 
-/// A path of a list by its number, and how many edits lead to it.
+/// The text of a path, and how many edits lead to it.
 #[derive(Clone, Copy)]
-struct NearPath {
-    number: usize,
+struct NearPath<'t> {
+    text: &'t str,
     edits: usize,
 }
 
@@ -38,17 +39,17 @@ pub struct Near {
 
 /// A name that is looked for.
 #[derive(Clone, Copy)]
-struct Wanted<'w> {
+pub struct Wanted<'w> {
     text: &'w str,
     letters: usize,
     /// how many edits may lead to a name that is near
     edits: usize,
 }
 
-/// Looks for near names. It looks at a fixed number of names in all, and finds none after that.
+/// Looks for names that are near to the first so many that it is asked for, and compares a fixed number with these.
 #[derive(Drop)]
 pub struct NearNames {
-    looks: usize,
+    names: usize,
     comparisons: usize,
 }
 
@@ -99,23 +100,18 @@ fn is_nearer(best: Option<Near>, edits: usize) -> bool {
 }
 
 impl NearNames {
-    /// No name was looked at.
+    /// No name was looked for.
     pub fn new() -> NearNames {
         NearNames {
-            looks: LOOKS,
+            names: NAMES,
             comparisons: COMPARISONS,
         }
     }
 
-    /// Takes a look, unless there is none left.
-    fn takes_look(&mut self) -> bool {
-        match self.looks.checked_sub(1) {
-            Some(left) => {
-                self.looks = left;
-                true
-            }
-            None => false,
-        }
+    /// A name for which near ones are looked for: none where that was done for so many others.
+    pub fn wanted<'w>(&mut self, text: &'w str) -> Option<Wanted<'w>> {
+        self.names = self.names.checked_sub(1)?;
+        Some(Wanted::new(text))
     }
 
     /// Takes a comparison, unless there is none left.
@@ -139,7 +135,7 @@ impl NearNames {
         symbol: Symbol<PathId, NameId>,
     ) -> Result<Option<Near>, AllocError> {
         let own = texts.name(symbol.name);
-        if !self.takes_look() || !wanted.may_be(own) || !self.takes_comparison() {
+        if !wanted.may_be(own) || !self.takes_comparison() {
             return Ok(best);
         }
         let edits = levenshtein(alloc, wanted.text, own)?;
@@ -150,8 +146,8 @@ impl NearNames {
         }
     }
 
-    /// The nearest of the one so far and the names that a module declares.
-    fn declared(
+    /// The nearest of the one so far and the names that a module declares, if one is near.
+    pub fn nearest_declared(
         &mut self,
         alloc: Global,
         texts: &Texts,
@@ -189,65 +185,27 @@ impl NearNames {
         Ok(best)
     }
 
-    /// The nearest of the one so far and the names that a module declares, if one is near.
-    pub fn nearest_declared(
-        &mut self,
-        alloc: Global,
-        texts: &Texts,
-        wanted: &str,
-        so_far: Option<Near>,
-        table: &Table,
-    ) -> Result<Option<Near>, AllocError> {
-        self.declared(alloc, texts, Wanted::new(wanted), so_far, table)
-    }
-
     /// The nearest of the names that a module declares or publishes, if one is near.
     pub fn nearest_seen(
         &mut self,
         alloc: Global,
         texts: &Texts,
-        wanted: &str,
+        wanted: Wanted<'_>,
         table: &Table,
     ) -> Result<Option<Near>, AllocError> {
-        let wanted = Wanted::new(wanted);
-        let declared = self.declared(alloc, texts, wanted, None, table)?;
+        let declared = self.nearest_declared(alloc, texts, wanted, None, table)?;
         self.published(alloc, texts, wanted, declared, table)
     }
 
-    /// The one of these modules that declares just that name, where one alone does.
-    pub fn only_declared(
-        &mut self,
-        tables: &[Table],
-        name: NameId,
-    ) -> Option<Symbol<PathId, NameId>> {
-        let mut found = None;
-        for table in tables {
-            if !self.takes_look() {
-                return None;
-            }
-            if table.declares(name) {
-                if found.is_some() {
-                    return None;
-                }
-                found = Some(Symbol {
-                    path: table.path(),
-                    name,
-                });
-            }
-        }
-        found
-    }
-
     /// The nearer of the one so far and a path.
-    fn nearer_path(
+    fn nearer_path<'t>(
         &mut self,
         alloc: Global,
         wanted: Wanted<'_>,
-        best: Option<NearPath>,
-        number: usize,
-        text: &str,
-    ) -> Result<Option<NearPath>, AllocError> {
-        if !self.takes_look() || !wanted.may_be(text) || !self.takes_comparison() {
+        best: Option<NearPath<'t>>,
+        text: &'t str,
+    ) -> Result<Option<NearPath<'t>>, AllocError> {
+        if !wanted.may_be(text) || !self.takes_comparison() {
             return Ok(best);
         }
         let edits = levenshtein(alloc, wanted.text, text)?;
@@ -256,27 +214,44 @@ impl NearNames {
             None => EDITS + 1,
         };
         if edits < least {
-            Ok(Some(NearPath { number, edits }))
+            Ok(Some(NearPath { text, edits }))
         } else {
             Ok(best)
         }
     }
 
-    /// The nearest of these paths by its number, if one is near.
+    /// The nearest of these paths, if one is near.
     pub fn nearest_path(
         &mut self,
         alloc: Global,
-        wanted: &str,
-        listed: &[String],
-    ) -> Result<Option<usize>, AllocError> {
-        let wanted = Wanted::new(wanted);
+        wanted: Wanted<'_>,
+        listed: &Interner,
+    ) -> Result<Option<String>, AllocError> {
         let mut best = None;
-        for (number, text) in listed.iter().enumerate() {
-            best = self.nearer_path(alloc, wanted, best, number, text.as_str())?;
+        for number in 0..listed.len() {
+            let text = listed.name(NameId(number)).unwrap_or("");
+            best = self.nearer_path(alloc, wanted, best, text)?;
         }
         match best {
-            Some(near) => Ok(Some(near.number)),
+            Some(near) => Ok(Some(String::from_str(alloc, near.text)?)),
             None => Ok(None),
         }
     }
+}
+
+/// The one of these modules that declares just that name, where one alone does.
+pub fn only_declared(tables: &[Table], name: NameId) -> Option<Symbol<PathId, NameId>> {
+    let mut found = None;
+    for table in tables {
+        if table.declares(name) {
+            if found.is_some() {
+                return None;
+            }
+            found = Some(Symbol {
+                path: table.path(),
+                name,
+            });
+        }
+    }
+    found
 }

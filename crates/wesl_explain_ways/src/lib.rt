@@ -1,0 +1,10 @@
+//! Chains of who asked for what, and ways of look-ups with the rings to which they lead, without their middle where they are long.
+#![tactic(auto)]
+
+mod chains;
+mod cut;
+mod way;
+
+pub use chains::{Chain, Depths};
+pub use cut::Cut;
+pub use way::{Rings, Way, no_way};
