@@ -176,8 +176,7 @@ fn not_callable(end: Option<usize>) -> Option<Misfit>
     }
 }
 
-/// Whether a call fits what its aliases lead to, and else what is wrong. Where they end nowhere, nothing is. It costs a
-/// look-up in each table of `ends`.
+/// Whether a call fits what its aliases lead to, and else what is wrong. Where they end nowhere, nothing is.
 pub(crate) fn judged(
     tables: &Tables,
     ends: &Ends,

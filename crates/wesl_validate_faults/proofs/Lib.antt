@@ -3,7 +3,9 @@ pub mod Closing
 pub mod Collecting
 pub mod Equality
 pub mod Fitting
+pub mod Inside
 pub mod Listing
+pub mod Misplaced
 pub mod Natural
 pub mod Placing
 pub mod Repeated

@@ -4,6 +4,7 @@ pub mod Gathered
 pub mod Laws
 pub mod Listed
 pub mod Members
+pub mod Misfitting
 pub mod Placed
 pub mod Repeated
 pub mod Telling
