@@ -13,12 +13,19 @@ BYTES_AT_MOST = 250
 SETS_AT_MOST = 40
 
 
+# How many times as fast as its bytes the work of a shape may grow, and that of one which prints a long name for each of its
+# parts: the line is then a square of the input, in these sizes a small part of the work.
+GROWTH_AT_MOST = 1.15
+PRINTED_AT_MOST = 1.25
+
+
 class Shape(NamedTuple):
     name: str
     count: int
     make: Callable[[int], bytes]
     is_refused: bool = False
     memory: int = BYTES_AT_MOST
+    growth: float = GROWTH_AT_MOST
 
 
 def text(value):
@@ -311,7 +318,7 @@ def long_paths():
     ))
     yield Shape("references by super in a module with a long path", 150, lambda count: deep_root(
         count, beside(count), declarations=[function("k", *({"k": "call", "call": {"ty": at("super::m", "f")}} for _ in range(count)))]
-    ))
+    ), growth=PRINTED_AT_MOST)
     yield Shape("references by package in a module with a long path", 150, lambda count: deep_root(
         count,
         [items("package::m", ["f"])],
@@ -322,7 +329,7 @@ def long_paths():
     ))
     yield Shape("references under an import of a module with a long path", 150, lambda count: main_of_uses(
         [at("q", "f")] * count, [items(f"{under('package', count)}::q", ["f"])], inside(under("package", count), {"item": "q"})
-    ))
+    ), growth=PRINTED_AT_MOST)
     yield Shape("references under an import of a module with a long path, each to another module", 150, lambda count: main_of_uses(
         [True],
         declarations=[const(f"u{place}", at(f"q::r{place}", "f")) for place in range(count)],
@@ -475,6 +482,16 @@ def split_own():
     yield Shape("imports of one name, each with another target, of a split name of their own module", 250, through(same("h"), same("g"), of_many))
     yield Shape("imports that a split name of their own module leads on", 250, through(lambda place: f"h{place}", same("g"), onward))
     yield Shape("imports of one name that a split name of their own module leads on", 250, through(same("h"), same("g"), onward))
+    unused = lambda conditions: lambda count: bundle(
+        module(
+            "package::main",
+            imports=[*onward(count), *(one("package::main", "g", f"h{place}", *conditions(place)) for place in range(count))],
+            declarations=[const("k")],
+        ),
+        items("package::a", number("f", count)),
+    )
+    yield Shape("imports that see all binders of a split name of their own module", 250, unused(lambda place: []))
+    yield Shape("imports that see all binders but one of a split name of their own module", 250, unused(lambda place: [when(is_not(way(place)))]))
 
 
 def split_from_outside():
@@ -726,7 +743,7 @@ def with_spans():
         items("package::m", number("f", count)), keep=number("k", count), form=2,
     ))
     yield Shape("statements with spans", 500, lambda count: bundle(
-        unit([function("k", *(placed({"k": "call", "call": placed({"ty": named("f", place)}, place)}, place) for place in range(count)))]),
+        unit([function("k", *(placed({"k": "call", "call": {"ty": "f"}}, place) for place in range(count)))]),
         form=2,
     ))
     yield Shape("conditions with spans", 500, lambda count: bundle(
