@@ -482,16 +482,6 @@ def split_own():
     yield Shape("imports of one name, each with another target, of a split name of their own module", 250, through(same("h"), same("g"), of_many))
     yield Shape("imports that a split name of their own module leads on", 250, through(lambda place: f"h{place}", same("g"), onward))
     yield Shape("imports of one name that a split name of their own module leads on", 250, through(same("h"), same("g"), onward))
-    unused = lambda conditions: lambda count: bundle(
-        module(
-            "package::main",
-            imports=[*onward(count), *(one("package::main", "g", f"h{place}", *conditions(place)) for place in range(count))],
-            declarations=[const("k")],
-        ),
-        items("package::a", number("f", count)),
-    )
-    yield Shape("imports that see all binders of a split name of their own module", 250, unused(lambda place: []))
-    yield Shape("imports that see all binders but one of a split name of their own module", 250, unused(lambda place: [when(is_not(way(place)))]))
 
 
 def split_from_outside():
@@ -743,7 +733,7 @@ def with_spans():
         items("package::m", number("f", count)), keep=number("k", count), form=2,
     ))
     yield Shape("statements with spans", 500, lambda count: bundle(
-        unit([function("k", *(placed({"k": "call", "call": {"ty": "f"}}, place) for place in range(count)))]),
+        unit([function("k", *(placed({"k": "call", "call": placed({"ty": named("f", place)}, place)}, place) for place in range(count)))]),
         form=2,
     ))
     yield Shape("conditions with spans", 500, lambda count: bundle(

@@ -5,7 +5,7 @@ import json
 import pathlib
 import sys
 
-from .link import TOP, Told, captured_words, clash_notes, find_program, loaded_files, origin, run, text_of
+from .link import TOP, Told, clash_notes, find_program, loaded_files, origin, run, text_of
 from .printer import NoText, is_identifier, print_unit
 from .project import Project, ProjectFault
 from .source import SyntaxFault
@@ -23,7 +23,7 @@ The reader follows WGSL's grammar with WESL's imports, paths and conditions; a f
 Each declaration is printed below a comment with its module, item, file and line. Nothing of this tool is proved."""
 STATUS = """\
 status: 0 linked; 1 a fault, on standard error as FILE:LINE:COLUMN: error: TEXT; 2 wrong use; 3 printed, but the names clash, or
-capture words of `var<..>`, or one of them is no identifier, so that the text is not what the modules mean."""
+one of them is no identifier, so that the text is not what the modules mean."""
 
 
 def pair(text):
@@ -104,10 +104,7 @@ def warnings_of(answer):
     found = []
     if answer["clash"]:
         found.append("warning: the printed names clash: the text does not mean what the modules do; take another --mangler, or rename")
-    names = declared_names(answer["unit"])
-    if any(any(captured_words(one, set(names))) for one in answer["unit"].get("declarations", [])):
-        found.append("warning: printed names are words of `var<..>`, so that compilers refuse the text; take --mangle-root, or rename")
-    wrong = [name for name in names if not is_identifier(name)]
+    wrong = [name for name in declared_names(answer["unit"]) if not is_identifier(name)]
     if wrong:
         found.append(f"warning: `{wrong[0]}` is no identifier, so that the text is no WGSL; take --mangler escape")
     return found

@@ -176,23 +176,6 @@ def origin(project, root, answer, tree):
     return None, item
 
 
-def captured_words(node, scope):
-    """The words of the variables in a tree that are names in scope there; what a statement declares is in scope behind it."""
-    if isinstance(node, list):
-        scope = set(scope)
-        for one in node:
-            yield from captured_words(one, scope)
-            if isinstance(one, dict) and one.get("k") in ("let", "const", "var"):
-                scope.add(one["name"])
-    elif isinstance(node, dict):
-        if node.get("k") == "var":
-            yield from scope & {node.get("space"), node.get("access")}
-        inner = [*node.get("params", []), node.get("init")] if node.get("k") in ("fn", "for") else []
-        scope = scope | {one["name"] for one in inner if isinstance(one, dict) and "name" in one}
-        for one in node.values():
-            yield from captured_words(one, scope)
-
-
 def clash_notes(project, root, answer):
     """The likely reasons of a clash: a local name that is a printed one, a name of the root that is built in, a name printed twice."""
     declared = [one for one in answer["unit"].get("declarations", []) if "name" in one]

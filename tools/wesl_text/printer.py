@@ -227,9 +227,8 @@ class Printer:
             shown = self.attributes(tree).rstrip()
             return f"{shown}\n{self.function(tree)}" if shown else self.function(tree)
         if word == "struct":
-            members = [self.parameter(one) for one in tree.get("members", [])]
-            lines = [f"{one}," for one in members[:-1]] + members[-1:]
-            return f"{self.attributes(tree)}struct {tree['name']} {self.braces(lines, 0)}"
+            members = [f"{self.parameter(one)}," for one in tree.get("members", [])]
+            return f"{self.attributes(tree)}struct {tree['name']} {self.braces(members, 0)}"
         if word == "alias":
             return f"{self.attributes(tree)}alias {tree['name']} = {self.type(tree['ty'])};"
         return self.statement(tree, 0)

@@ -5,17 +5,17 @@ use Rattle.wesl_cond_choices.specs.declared.place.Place.{Place}
 use Rattle.wesl_cond_choices.specs.Places.{is_always, keeps, together}
 use Rattle.wesl_cond_choices.specs.Choices.{Choices, has}
 use Rattle.wesl_cond_choices.specs.Alive.{AreChoicesOf, set_has}
-use Rattle.wesl_cond_covers.specs.Unseen.{AreIn, AreUnions, IsApart, IsIn, MayKeep, may_have}
+use Rattle.wesl_cond_covers.specs.Unseen.{AreIn, AreUnions, IsIn, MayKeep, may_have}
 use Rattle.wesl_cond_covers.specs.LevelView.{LevelPasses, LevelsPass}
 use Rattle.wesl_cond_covers.specs.declared.level.Level.{Level}
 
 -- ---- lists and tests
 
-pub both : (x y : Bool) → (x && y) ≡ true → (x ≡ true) × (y ≡ true)
+both : (x y : Bool) → (x && y) ≡ true → (x ≡ true) × (y ≡ true)
 both true y h = (refl, h)
 both false y h = absurd (let z : ⊥ = cc in z)
 
-pub not_true : (b : Bool) → (b ≡ true → ⊥) → b ≡ false
+not_true : (b : Bool) → (b ≡ true → ⊥) → b ≡ false
 not_true true h = absurd (h refl)
 not_true false h = refl
 
@@ -28,7 +28,7 @@ last_or (z ∷ xs) y (suc i) x h = elim (last_or xs y i x h) [ inl e ↦ inl e |
 -- ---- places
 
 -- a choice that keeps both
-pub kept_both : (alive : List (List Place)) (a b : Place) → together alive a b ≡ true
+kept_both : (alive : List (List Place)) (a b : Place) → together alive a b ≡ true
     → (k : ℕ) × ((kept : List Place) × ((slice_get alive k ≡ Some kept) × ((keeps kept a ≡ true) × (keeps kept b ≡ true))))
 kept_both [] a b t = absurd (let z : ⊥ = cc in z)
 kept_both (kept ∷ alive) a b t = by (keeps kept a && keeps kept b) refl t (λ u. kept_both alive a b u)
@@ -39,10 +39,11 @@ kept_both (kept ∷ alive) a b t = by (keeps kept a && keeps kept b) refl t (λ 
     by true e u rest = (0, (kept, (refl, both (keeps kept a) (keeps kept b) e)))
     by false e u rest = let (k, r) = rest u in (suc k, r)
 
--- a place that no choice keeps which keeps another is not seen from there
-pub unseen : (alive : List (List Place)) (from p : Place) (set : Option Choices) → MayKeep alive set from → IsApart alive set p → together alive from p ≡ false
-unseen alive from p set f g =
-    not_true (together alive from p) (λ t. let (k, (kept, (at, (one, other)))) = kept_both alive from p t in g.none k kept at other (f k kept at one))
+-- two places that are in sets which meet nowhere are not seen from each other
+unseen : (alive : List (List Place)) (from p : Place) (set : Option Choices) (c : Choices) → MayKeep alive set from → IsIn alive c p
+    → ((k : ℕ) → may_have k set ≡ true → has c k ≡ true → ⊥) → together alive from p ≡ false
+unseen alive from p set c f g apart =
+    not_true (together alive from p) (λ t. let (k, (kept, (at, (one, other)))) = kept_both alive from p t in apart k (f k kept at one) (g.held k kept at other))
 
 -- the choices that keep a place, where they are known
 pub in_known : (alive : List (List Place)) (place : Place) (known : Option Choices) (set : Choices) → known ≡ Some set → (is_always place ≡ true → known ≡ None)
@@ -82,21 +83,21 @@ one_more n m start span e begins = let f : (n + 1) * span ≡ n * span + span = 
     begun : start + span ≡ n * span + span
     begun = omega (arith, begins)
 
--- none of the places of a union is kept by a choice of a set that it does not meet
+-- none of the places of a union is seen that meets nothing
 pub level_passes : (l : Level) (set : Option Choices) (c : Choices) (n i : ℕ) → n * l.span ≡ i → slice_get l.unions.items n ≡ Some (Some c) → ((k : ℕ) → may_have k set ≡ true → has c k ≡ true → ⊥)
     → LevelPasses l set i (i + l.span)
-level_passes l set c n i begins at apart alive places h k p low high there =
+level_passes l set c n i begins at apart alive places from f h k p low high there =
     let q : IsIn alive c p = h n c at k p (omega (arith, begins, low)) (omega (arith, begins, high)) there in
-    record { apart = q.apart; none = λ m kept is t in_set. apart m in_set (q.held m kept is t) }
+    (q.apart, unseen alive from p set c f q apart)
 
 -- ---- levels
 
 pub pass_none : (levels : List Level) (set : Option Choices) (i : ℕ) → LevelsPass levels set i i
-pass_none levels set i alive places h k p low high at = absurd (omega (arith, low, high))
+pass_none levels set i alive places from f h k p low high at = absurd (omega (arith, low, high))
 
 pub pass_level : (levels : List Level) (l : Level) (set : Option Choices) (i j m : ℕ) → Contains levels l → LevelPasses l set i m → j ≤ m → LevelsPass levels set i j
-pass_level levels l set i j m there passes within alive places h k p low high at = passes alive places (h l there) k p low (omega (arith, high, within)) at
+pass_level levels l set i j m there passes within alive places from f h k p low high at = passes alive places from f (h l there) k p low (omega (arith, high, within)) at
 
 pub pass_on : (levels : List Level) (set : Option Choices) (i j m : ℕ) → LevelsPass levels set i j → LevelsPass levels set j m → LevelsPass levels set i m
-pass_on levels set i j m first then alive places h k p low high at =
-    elim (cases_lt k j) [ inl before ↦ first alive places h k p low before at | inr after ↦ then alive places h k p after high at ]
+pass_on levels set i j m first then alive places from f h k p low high at =
+    elim (cases_lt k j) [ inl before ↦ first alive places from f h k p low before at | inr after ↦ then alive places from f h k p after high at ]

@@ -1,5 +1,3 @@
 pub mod Unseen
 pub mod LevelView
 pub mod CoversView
-pub mod Sight
-pub mod SightsView

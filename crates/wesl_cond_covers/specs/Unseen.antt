@@ -27,15 +27,6 @@ module _ (alive : List (List Place)) where
   abbrev pub AreUnions : List Place → ℕ → List (Option Choices) → Type 0
   AreUnions places span unions = (n : ℕ) (c : Choices) → slice_get unions n ≡ Some (Some c) → AreIn places c (n * span) (n * span + span)
 
-  -- the place is not the module itself, and no choice that keeps it is in the set, where there is one
-  pub record IsApart (set : Option Choices) (place : Place) : Type 0 where
-    pub apart : is_always place ≡ false
-    pub none : (k : ℕ) (kept : List Place) → slice_get alive k ≡ Some kept → keeps kept place ≡ true → may_have k set ≡ true → ⊥
-
-  -- so are the places from one index to another
-  abbrev pub AreApart : Option Choices → List Place → ℕ → ℕ → Type 0
-  AreApart set places i j = (k : ℕ) (p : Place) → i ≤ k → k < j → slice_get places k ≡ Some p → IsApart set p
-
   -- no place from one index to another is seen from there
   abbrev pub AreUnseen : List Place → Place → ℕ → ℕ → Type 0
   AreUnseen places from i j =

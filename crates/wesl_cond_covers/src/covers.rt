@@ -1,7 +1,7 @@
 //! Levels of unions of the sets of places in a row, by which many places that are not seen are passed at once.
-ghost use Rattle.std.specs.Prelude.{◌≡◌, ℕ, ◌<◌, ◌≤◌, [], option_copied, IfOk, List, OnOk, Some};
+ghost use Rattle.std.specs.Prelude.{◌≡◌, ℕ, ◌<◌, ◌≤◌, [], option_copied, IfOk, List, OnOk};
 ghost use Rattle.wesl_cond_choices.specs.declared.place.Place.{Place};
-ghost use Rattle.wesl_cond_covers.specs.Unseen.{AreApart, AreUnseen};
+ghost use Rattle.wesl_cond_covers.specs.Unseen.{AreUnseen};
 ghost use Rattle.wesl_cond_covers.specs.LevelView.{AreLevelsOf, LevelsPass};
 
 use crate::level::Level;
@@ -64,24 +64,23 @@ fn add_levels(
 /// all where no set is given; the index itself, where there is none.
 fn behind(levels: &[Level], set: Option<&Choices>, index: usize) -> usize
     ensures ahead { index ≤ result }
-    ensures apart { LevelsPass levels.now (option_copied set.entry) index result }
+    ensures unseen { LevelsPass levels.now (option_copied set.entry) index result }
 {
-    let mut i = levels.len();
-    'levels: while i > 0 {
-        i -= 1;
-        let level = &levels[i];
-        if level.passes(set, index) {
-            return index.saturating_add(level.span);
+    let mut behind = index;
+    for level in levels {
+        if !level.passes(set, index) {
+            return behind;
         }
+        behind = index.saturating_add(level.span);
     }
-    index
+    behind
 }
 
 /// The index of the first place, from one index on, with which no union begins that has none of these choices, or none at all
 /// where no set is given.
 fn next(levels: &[Level], set: Option<&Choices>, index: usize) -> usize
     ensures ahead { index ≤ result }
-    ensures apart { LevelsPass levels.now (option_copied set.entry) index result }
+    ensures unseen { LevelsPass levels.now (option_copied set.entry) index result }
 {
     let mut at = index;
     let mut end = behind(levels, set, at);
@@ -122,14 +121,5 @@ impl Covers {
         ensures unseen { (places : List Place) → AreCoversOf alive.now places self.now → AreUnseen alive.now places from index result }
     {
         next(&self.levels, alive.choices_of(from), index)
-    }
-
-    /// The index of the first place, from one index on, that is not passed: none of those before it is kept by a choice of this
-    /// set.
-    pub(crate) fn next_apart(&self, set: &Choices, index: usize) -> usize
-        ensures ahead { index ≤ result }
-        ensures apart { (alive : List (List Place)) (places : List Place) → AreCoversOf alive places self.now → AreApart alive (Some set.now) places index result }
-    {
-        next(&self.levels, Some(set), index)
     }
 }

@@ -2,7 +2,5 @@
 #![tactic(auto)]
 
 pub mod covers;
-pub mod laws;
 pub mod level;
-pub mod sights;
 pub mod unions;

@@ -147,7 +147,6 @@ fn write_meaning(out: &mut Writer, told: &Explanation, meaning: Meaning) -> Resu
         Meaning::Held(place) => write_place(out, told, place),
         Meaning::Local => out.string("local"),
         Meaning::Outer => out.string("outer"),
-        Meaning::Word => out.string("word"),
     }
 }
 
@@ -164,7 +163,7 @@ fn cure_word(cure: Cure) -> &'static str {
         Cure::MangleRoot => "mangle_root",
         Cure::AnotherMangler => "mangler",
         Cure::ManglerAndRoot => "mangler_and_root",
-        Cure::AnotherName | Cure::Rename => "name",
+        Cure::AnotherName => "name",
     }
 }
 
@@ -193,15 +192,10 @@ fn write_clash(out: &mut Writer, told: &Explanation, clash: &NameClash) -> Resul
     out.end_object()
 }
 
-fn write_clashes(
-    out: &mut Writer,
-    told: &Explanation,
-    key: &str,
-    clashes: &[NameClash],
-) -> Result<(), AllocError> {
-    out.key(key)?;
+fn write_clashes(out: &mut Writer, told: &Explanation) -> Result<(), AllocError> {
+    out.key("clashes")?;
     out.begin_array()?;
-    for clash in clashes {
+    for clash in &told.clashes {
         write_clash(out, told, clash)?;
     }
     out.end_array()
@@ -258,13 +252,12 @@ fn write_unused(out: &mut Writer, told: &Explanation) -> Result<(), AllocError> 
 /// Writes the members, in the order of their keys.
 fn write_all(out: &mut Writer, alloc: Global, told: &Explanation) -> Result<(), AllocError> {
     out.begin_object()?;
-    write_clashes(out, told, "clashes", &told.clashes.names)?;
+    write_clashes(out, told)?;
     write_faults(out, alloc, told)?;
     write_free(out, told)?;
     write_held(out, alloc, told)?;
     write_modules(out, alloc, told)?;
     write_unused(out, told)?;
-    write_clashes(out, told, "word_clashes", &told.clashes.words)?;
     out.end_object()
 }
 

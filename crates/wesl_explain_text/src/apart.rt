@@ -63,8 +63,7 @@ impl Apart {
         match self.place_of(link) {
             Some(place) => self.join(place, index),
             None => {
-                let place = self.groups.len();
-                self.note(link, place)?;
+                self.note(link, self.groups.len())?;
                 self.add_alone(alloc, index)
             }
         }
@@ -72,7 +71,7 @@ impl Apart {
 }
 
 /// The faults by their numbers, those that are told as one together.
-pub fn groups_of(alloc: Global, told: &Explanation) -> Result<Vec<Vec<usize>>, AllocError> {
+pub fn apart(alloc: Global, told: &Explanation) -> Result<Vec<Vec<usize>>, AllocError> {
     let mut found = Apart {
         groups: Vec::new(alloc),
         clashes: HashMap::new(alloc),

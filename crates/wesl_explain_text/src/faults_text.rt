@@ -1,6 +1,6 @@
 //! Faults as text.
 
-use crate::apart::{groups_of, uses_of};
+use crate::apart::{apart, uses_of};
 use crate::cures::cure_text;
 use crate::headings::{is_kept, push_head};
 use crate::places::{Places, file_of, push_span};
@@ -82,7 +82,7 @@ pub fn push_faults(
     told: &Explanation,
     places: &Places<'_>,
 ) -> Result<(), AllocError> {
-    let groups = groups_of(alloc, told)?;
+    let groups = apart(alloc, told)?;
     push_heading(out, alloc, "Refused, faults", groups.len())?;
     for (place, group) in groups.iter().enumerate() {
         push_numbered(out, alloc, told, places, place.saturating_add(1), group)?;

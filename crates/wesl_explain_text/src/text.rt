@@ -6,8 +6,7 @@ use crate::places::{ModuleFile, Places, push_file_place};
 use crate::shown::Shown;
 use std::alloc::{AllocError, Global};
 use wesl_explain_world::{
-    Clashes, Cure, Explanation, FreeName, HeldDeclaration, Meaning, NameClash, PathId, Read,
-    UnusedImport,
+    Cure, Explanation, FreeName, HeldDeclaration, Meaning, NameClash, PathId, Read, UnusedImport,
 };
 use wesl_tree_base::Span;
 
@@ -204,10 +203,6 @@ fn push_meaning(out: &mut String, told: &Explanation, meaning: Meaning) -> Resul
             out.push_str("a name that no module declares")?;
             Ok(())
         }
-        Meaning::Word => {
-            out.push_str("an address space or access mode")?;
-            Ok(())
-        }
     }
 }
 
@@ -240,7 +235,6 @@ pub fn cure_text(cure: Cure) -> &'static str {
         Cure::ManglerAndRoot =>
             "set `mangler` to `escape` or `unicode` and `mangle_root` to `true` in the bundle; entry points get other names too",
         Cure::AnotherName => "give one of the two another name",
-        Cure::Rename => "give the declaration another name",
     }
 }
 
@@ -344,11 +338,8 @@ fn push_link(
     if !view.shown.is_all() {
         return Ok(());
     }
-    let Clashes { names, words } = &told.clashes;
-    push_heading(out, alloc, "\nNames that clash", names.len())?;
-    push_clashes(out, told, names)?;
-    push_heading(out, alloc, "\nWords that declarations capture", words.len())?;
-    push_clashes(out, told, words)?;
+    push_heading(out, alloc, "\nNames that clash", told.clashes.len())?;
+    push_clashes(out, told, &told.clashes)?;
     push_heading(out, alloc, "\nNames that stay free", told.free.len())?;
     push_free(out, told, &told.free)?;
     push_heading(

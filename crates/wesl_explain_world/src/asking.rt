@@ -72,7 +72,7 @@ impl Asked {
     /// What a module asks for where it is asked for a name that it imports.
     fn put_targets(&mut self, table: &Table, name: NameId) -> Result<(), AllocError> {
         let mut at = table.latest_import_of(name);
-        'targets: while let Some(index) = at {
+        'imports: while let Some(index) = at {
             self.put_target(table, index)?;
             at = table.earlier_import_of(index, name);
         }

@@ -5,6 +5,7 @@ ghost use Rattle.wesl_explain_world.specs.Why.{HasItsReasons};
 ghost use Rattle.wesl_explain_world.specs.Explained.{ExplainsHeld, ExplainsLink, TellsAll};
 
 use crate::asking::unused_imports;
+use crate::clashing::clashes_in;
 use crate::explanation::{Explanation, Fault, HeldDeclaration};
 use crate::faults::fault_of;
 use crate::freeing::free_in;
@@ -16,7 +17,6 @@ use crate::world::{World, world_of};
 use bumpalo::Bump;
 use json::Scratch;
 use std::alloc::{AllocError, Global};
-use wesl_explain_clashes::clashes_in;
 use wesl_explain_faults::Texts;
 use wesl_link::{LinkRequest, Resolutions, link_at};
 use wesl_link_symbols::ids::PathId;

@@ -6,7 +6,6 @@ ghost use Rattle.wesl_explain_world.specs.Explained.{TellsNothing};
 use crate::world::{Steps, reason_of};
 use serde_json::Value;
 use std::alloc::{AllocError, Global};
-use wesl_explain_clashes::Clashes;
 use wesl_explain_faults::{HeldUntil, LinkFault};
 use wesl_json::value_of_text;
 use wesl_link_reach::link::Linked;
@@ -27,8 +26,8 @@ pub struct Explanation {
     pub modules: Vec<PathId>,
     /// The declarations that are held, in the order of the linked unit.
     pub held: Vec<HeldDeclaration>,
-    /// Where printed names read otherwise than they should, and the words that declarations capture.
-    pub clashes: Clashes,
+    /// Where printed names read otherwise than they should.
+    pub clashes: Vec<NameClash>,
     /// The names that nothing declares and that are not built in.
     pub free: Vec<FreeName>,
     /// The imports of loaded modules that nothing held uses.
@@ -58,7 +57,7 @@ impl Explanation {
             reasons: None,
             modules: Vec::new(alloc),
             held: Vec::new(alloc),
-            clashes: Clashes::none(alloc),
+            clashes: Vec::new(alloc),
             free: Vec::new(alloc),
             unused: Vec::new(alloc),
             faults: Vec::new(alloc),
@@ -112,6 +111,56 @@ pub struct HeldDeclaration {
     pub name: Option<NameId>,
     /// the name that it prints as
     pub printed: String,
+}
+
+/// What an identifier stands for.
+#[derive(Clone, Copy)]
+pub enum Meaning {
+    /// The held declaration of this number.
+    Held(usize),
+    /// A parameter, or a name that is declared in a function.
+    Local,
+    /// A name that the linked unit does not declare.
+    Outer,
+}
+
+/// What is read where a name clashes.
+#[derive(Clone, Copy)]
+pub enum Read {
+    /// The name reads as this.
+    As(Meaning),
+    /// The name reads as nothing.
+    Nothing,
+    /// Two declarations have the name, the other is this.
+    Twice(Meaning),
+}
+
+/// What helps where a name clashes.
+#[derive(Clone, Copy)]
+pub enum Cure {
+    /// The bundle's `mangle_root`, which gives the root's names, entry points too, a form of their own.
+    MangleRoot,
+    /// The bundle's `mangler`, `escape` or `unicode` in place of `none`.
+    AnotherMangler,
+    /// Both: it is a name of the root that is read, and one of no module that is meant, or the other way round.
+    ManglerAndRoot,
+    /// Another name in the source.
+    AnotherName,
+}
+
+/// A place at which a printed name reads otherwise than it should.
+#[derive(Drop)]
+pub struct NameClash {
+    /// the printed name
+    pub name: String,
+    /// the held declaration that it stands in
+    pub within: Option<usize>,
+    /// what it stands for
+    pub meant: Meaning,
+    /// what is read
+    pub read: Read,
+    /// what helps
+    pub cures: Vec<Cure>,
 }
 
 /// A name that stays free.

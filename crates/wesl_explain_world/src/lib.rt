@@ -3,6 +3,7 @@
 #![tactic(auto)]
 
 mod asking;
+mod clashing;
 mod explaining;
 mod explanation;
 mod faults;
@@ -14,8 +15,10 @@ mod sources;
 mod world;
 
 pub use explaining::explained;
-pub use explanation::{Explanation, Fault, FaultLine, FreeName, HeldDeclaration, UnusedImport};
-pub use wesl_explain_clashes::{Clashes, Cure, Meaning, NameClash, Read};
+pub use explanation::{
+    Cure, Explanation, Fault, FaultLine, FreeName, HeldDeclaration, Meaning, NameClash, Read,
+    UnusedImport,
+};
 pub use wesl_explain_faults::{
     Asker, Chain, Cut, FaultCure, Flaw, HeldUntil, LinkFault, Target, Use, Way, Wrong,
 };

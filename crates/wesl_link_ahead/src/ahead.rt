@@ -9,12 +9,12 @@ ghost use Rattle.wesl_link_reach.specs.World.{IsAt, Entered, Followed};
 ghost use Rattle.wesl_link_reach.specs.Trodden.{symbol_of};
 ghost use Rattle.wesl_link_ahead.specs.Ahead.{AreEntered, ComesTo, IsAheadIn, IsAskedIn, KeepsAsked, task_in, world_in};
 
+use crate::asked::asked_from;
 use crate::keys::Keys;
 use std::alloc::{AllocError, Global};
 use std::collections::HashMap;
 use std::mem::replace;
 use wesl_cond_choices::place::Place;
-use wesl_link_reach::asked_from;
 use wesl_link_symbols::ids::{NameId, PathId};
 use wesl_link_symbols::keyed;
 use wesl_link_symbols::symbols::{Answer, LookUp, Symbol};

@@ -2,6 +2,7 @@
 #![tactic(auto)]
 
 mod ahead;
+mod asked;
 mod keys;
 
 pub use ahead::{Ahead, Linking};

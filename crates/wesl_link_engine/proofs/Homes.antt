@@ -1,14 +1,16 @@
 -- Paths of modules by their numbers, and nodes that are told by them.
-use Rattle.std.proofs.Common.{◌≡◌, ◌⊎◌, inl, inr, ℕ, zero, suc, ◌+◌, ◌-◌, Some, List, [], ◌∷◌, ◌++◌, map, take, Contains, arith, refl, sym, subst, ap, ◌∙◌}
+use Rattle.std.proofs.Common.{◌≡◌, ◌⊎◌, inl, inr, ℕ, zero, suc, ◌<◌, ◌+◌, ◌-◌, Some, List, [], ◌∷◌, ◌++◌, map, take, length, get_or, Contains, arith, refl, sym, subst, ap, ◌∙◌}
 use Rattle.std.specs.Prelude.{slice_get}
 use Rattle.wesl_tree_names.specs.Path.{Text, Path, path_view}
 use Rattle.wesl_tree_names.specs.declared.path.ModulePath.{ModulePath}
+use Rattle.wesl_link_symbols.specs.Keyed.{Puts}
 use Rattle.wesl_link_symbols.specs.declared.ids.PathId.{PathId}
 use Rattle.wesl_tree_base.specs.declared.ids.NameId.{NameId}
 use Rattle.wesl_link_symbols.specs.declared.symbols.Symbol.{Symbol}
 use Rattle.wesl_link_symbols.specs.Tables.{Table}
-use Rattle.wesl_link_symbols.proofs.Lists.{at_contains, contains_cases, contains_first, contains_later, contains_nil}
-use Rattle.wesl_link_reach.specs.World.{Task, Reached}
+use Rattle.wesl_link_symbols.proofs.Lists.{at_contains, contains_at, contains_cases, contains_first, contains_later, contains_nil}
+use Rattle.wesl_link_reach.specs.Linking.{paths}
+use Rattle.wesl_link_reach.specs.World.{Task, IsAt, Entered, Reached}
 use Rattle.wesl_link_reach.specs.World.Reached.{led_to, declared}
 use Rattle.wesl_link_reach.proofs.Lists.{contains_map, map_contains}
 use Rattle.wesl_link_reasons.specs.declared.node.Node.{Node}
@@ -16,13 +18,15 @@ use Rattle.wesl_link_reasons.specs.declared.node.Node.TheVariants.{KeptName, Mod
 use Rattle.wesl_link_reasons.specs.Reasons.{Chain, IsHeld, IsReason, task_from}
 use Rattle.wesl_link_reasons.specs.Reasons.Chain.{alone, before}
 use Rattle.wesl_link_reasons.proofs.Holding.{first_held, holds_on}
+use Rattle.wesl_link_paths.proofs.Lists.{get_end, held_below}
 use Rattle.wesl_link_engine.proofs.Lists.{take_at}
 use Rattle.wesl_link_tables.specs.Numbering.{NameAt, PathAt}
 use Rattle.wesl_link_tables.specs.TextsView.{numbering_of_texts as numbering}
 use Rattle.wesl_tree_interner.proofs.Interning.{get_map}
 use Rattle.wesl_link_engine.specs.Homes.{AddsHome, AreTellable, HasNone, IsEntered, IsHomeAt, IsTellable}
-use Rattle.wesl_link_engine.specs.Keeping.{IsLinkOf, all_loaded, task_in}
-use Rattle.wesl_link_engine.specs.Reasons.{HasTexts, HoldsIn}
+use Rattle.wesl_link_engine.specs.Keeping.{IsLinkOf, all_loaded, module_of, task_in}
+use Rattle.wesl_link_engine.specs.Reasons.{HasTexts, HaveTexts, HoldsIn}
+use Rattle.wesl_link_engine.specs.Worlds.{table}
 use Rattle.wesl_link_engine.specs.declared.link.Link.{Link}
 use Rattle.wesl_link_engine.specs.declared.loaded.LoadedModule.{LoadedModule}
 use Rattle.wesl_link_engine.proofs.Built.{paths_one}

@@ -179,7 +179,7 @@ module _ (numbers : NumberTexts) (first : Numbering) (g : Grows first (numbering
   entered : (r p : PathId) → PathAt nb r (path_view path) → Entered k.tables (task_from r kept.items is_eager) p → Contains (linking.paths k.tables) p
   entered r p at h =
       let same_root : r ≡ rt.path = (paths_one nb numbers.paths.different).other r rt.path (path_view path) at root_now.path in
-      let (t, (c, e)) = (linked.paths p).1 (subst (λ (x : PathId). Entered k.tables (task_from x kept.items is_eager) p) same_root h) in
+      let (t, c, e) = (linked.paths p).1 (subst (λ (x : PathId). Entered k.tables (task_from x kept.items is_eager) p) same_root h) in
       subst (λ (q : PathId). Contains (linking.paths k.tables) q) e (map_contains (λ (u : Table PathId NameId). u.path) k.tables t c)
 
   pub sound : IsLinkOf (task_in link) link

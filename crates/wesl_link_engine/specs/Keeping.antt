@@ -92,8 +92,7 @@ pub record IsLinkOf (task : Task Path Text) (l : Link) : Type 0 where
       → Contains l.linked.symbols s ↔ Reached (tables (modules_in l)) task x
   pub kept : AreRelated (NameAt (numbering l.numbers)) l.kept.items task.kept
   pub tables_once : AreDistinct (paths l.linked.tables)
-  pub entered : (root p : PathId) → PathAt (numbering l.numbers) root (path_view l.root.path)
-      → Entered l.linked.tables (task_from root l.kept.items l.is_eager) p → Contains (paths l.linked.tables) p
+  pub entered : (root p : PathId) → PathAt (numbering l.numbers) root (path_view l.root.path) → Entered l.linked.tables (task_from root l.kept.items l.is_eager) p → Contains (paths l.linked.tables) p
   pub no_missing : (root : PathId) (look : LookUp PathId NameId) (p : PathId) (n : NameId) → PathAt (numbering l.numbers) root (path_view l.root.path)
       → Followed l.linked.tables (task_from root l.kept.items l.is_eager) look → IsMissingAt l.linked.tables look p n → ⊥
   pub clear : (t : Table PathId NameId) (name : Option NameId) (n : NameId) → Contains l.linked.tables t → IsHeld l.linked t.path name → IsUnclearFrom t name n → ⊥

@@ -1,5 +1,6 @@
 -- What each step of a search keeps.
 use Rattle.std.proofs.Common.{◌≡◌, ◌⊎◌, inl, inr, ℕ, List, Option, None, Contains, subst, sym, refl, ◌∙◌}
+use Rattle.std.proofs.lemmas.List.Elements.{Contains-push_cases}
 use Rattle.wesl_link_symbols.specs.declared.ids.PathId.{PathId}
 use Rattle.wesl_tree_base.specs.declared.ids.NameId.{NameId}
 use Rattle.wesl_link_symbols.specs.declared.symbols.LookUp.{LookUp}
@@ -21,7 +22,6 @@ use Rattle.wesl_link_faults.specs.declared.told.Flaw.TheVariants.{Clash, NoModul
 use Rattle.wesl_link_faults.specs.declared.told.End.{End}
 use Rattle.wesl_link_faults.specs.declared.told.Told.{Told}
 use Rattle.wesl_link_faults.specs.declared.told.End.TheVariants.{Found, Flawed}
-pub use Rattle.wesl_link_ahead.proofs.Going.{puts_cases, puts_keep}
 use Rattle.wesl_link_faults.specs.declared.keys.Keys.{Keys}
 use Rattle.wesl_link_faults.specs.declared.given.Given.{Given}
 use Rattle.wesl_link_faults.specs.declared.search.Search.{Search}
@@ -38,8 +38,15 @@ pub put_distinct : {K : Type 0} (old new : List K) (k : K) → AreDistinct old �
 put_distinct {K} old new k d (inl (there, e)) = subst (λ (ks : List K). AreDistinct ks) (sym e) d
 put_distinct {K} old new k d (inr (fresh, e)) = subst (λ (ks : List K). AreDistinct ks) (sym e) (distinct_push old k d fresh)
 
+pub puts_cases : {K : Type 0} (old new : List K) (k x : K) → PutsKey old k new → Contains new x → Contains old x ⊎ (k ≡ x)
+puts_cases {K} old new k x (inl (there, e)) h = inl (subst (λ (ks : List K). Contains ks x) e h)
+puts_cases {K} old new k x (inr (fresh, e)) h = Contains-push_cases old k x (subst (λ (ks : List K). Contains ks x) e h)
+
 pub on_has : {X : Type 0} (xs ys : List X) (x : X) → GoesOn xs ys → Contains xs x → Contains ys x
 on_has xs ys x on h = (within_on xs ys on).held x h
+
+pub puts_keep : {K : Type 0} (old new : List K) (k x : K) → PutsKey old k new → Contains old x → Contains new x
+puts_keep old new k x put h = on_has old new x (puts_on old new k put) h
 
 -- ---- what was found stays
 

@@ -1,5 +1,5 @@
 -- Paths as a module means them.
-use Rattle.std.proofs.Common.{◌≡◌, ℕ, zero, suc, ◌<◌, ◌≤◌, ◌+◌, ◌-◌, false, Bor, All, List, [], ◌∷◌, ◌++◌, length, get_or, take, drop, map, arith, refl, sym, ap, ap₂, ◌∙◌, append-nil, true≢false}
+use Rattle.std.proofs.Common.{◌≡◌, ℕ, zero, suc, ◌<◌, ◌≤◌, ◌+◌, ◌-◌, false, Bor, All, List, [], ◌∷◌, ◌++◌, length, get_or, take, drop, map, arith, refl, sym, subst, ap, ap₂, ◌∙◌, append-nil, append_assoc, true≢false}
 use Rattle.std.specs.Prelude.{◌==◌}
 use Rattle.std.specs.List.{join_by}
 use Rattle.wesl_tree_base.specs.Borrowed.{texts}

@@ -1,6 +1,7 @@
 -- Nodes and their paths, as nodes and parts are added.
-use Rattle.std.proofs.Common.{◌≡◌, ◌⊎◌, inl, inr, ℕ, zero, suc, ◌<◌, ◌≤◌, ◌+◌, true, false, Some, List, [], ◌∷◌, ◌++◌, length, get_or, All, arith, eqb-true, eq-eqb, refl, sym, subst, ap, ap₂, ◌∙◌}
+use Rattle.std.proofs.Common.{◌≡◌, ◌⊎◌, inl, inr, ℕ, zero, suc, ◌<◌, ◌≤◌, ◌+◌, ◌-◌, Bool, true, false, Some, None, List, [], ◌∷◌, ◌++◌, length, get_or, take, map, All, arith, eqb-true, eq-eqb, refl, sym, subst, ap, ap₂, ◌∙◌, append_assoc, append-nil, true≢false, rules}
 use Rattle.std.specs.Prelude.{slice_get, codes}
+use Rattle.std.specs.List.{list_any}
 use Rattle.wesl_tree_base.specs.Pieces.{Text, has, slash}
 use Rattle.wesl_tree_names.specs.Path.{Origin, absolute, relative, from_package, Path, root_path, push, is_relative, origin_is_relative, join_origin, same_origin}
 use Rattle.wesl_tree_base.specs.declared.ids.NameId.{NameId}
@@ -8,12 +9,12 @@ use Rattle.wesl_link_symbols.specs.declared.ids.PathId.{PathId}
 use Rattle.wesl_tree_interner.specs.Different.{AreDifferent}
 use Rattle.std.proofs.lemmas.List.Elements.{All-append}
 use Rattle.std.proofs.lemmas.Slice.Eq.{bytes_eq-Decides}
-use Rattle.wesl_tree_interner.proofs.Different.{added, get_cases}
+use Rattle.wesl_tree_interner.proofs.Different.{none_passes, added, get_cases}
 use Rattle.wesl_link_paths.specs.Longer.{IsLonger, path_in}
-use Rattle.wesl_link_paths.specs.Nodes.{AreWhole, IsWhole, IsWholePackage, IsWholePath, has_none, in_package, is_root, node_path, part_in, paths_after, paths_by, root_of}
+use Rattle.wesl_link_paths.specs.Nodes.{AreWhole, IsWhole, IsWholePackage, IsWholePath, Puts, has_none, in_package, is_root, node_path, part_in, paths_after, paths_by, root_of}
 use Rattle.wesl_link_paths.specs.declared.node.PathNode.{PathNode}
 use Rattle.wesl_link_paths.specs.declared.node.PathNode.TheVariants.{Root, Package, Under}
-use Rattle.wesl_link_paths.proofs.Lists.{longer_itself, longer_trans, get_in, held_below, below_held, get_end, below_later, same_later, path_same}
+use Rattle.wesl_link_paths.proofs.Lists.{longer_itself, longer_trans, get_in, getting, held_below, below_held, get_end, below_later, same_later, path_same}
 use Rattle.wesl_link_paths.proofs.Slashes.{join_named, no_slash, parts_same, slash_between}
 
 -- ---- roots

@@ -1,8 +1,8 @@
 -- Nodes and parts after one was put among them.
-use Rattle.std.proofs.Common.{◌≡◌, inl, inr, ℕ, Bool, true, false, Some, List, [], ◌∷◌, ◌++◌, length, All, refl, sym, subst, ap, ◌∙◌, rules}
+use Rattle.std.proofs.Common.{◌≡◌, ◌⊎◌, inl, inr, ℕ, ◌<◌, ◌≤◌, Bool, true, false, Some, List, [], ◌∷◌, ◌++◌, length, map, All, arith, refl, sym, subst, ap, ◌∙◌, rules}
 use Rattle.std.specs.Prelude.{slice_get, bytes_eq, if◌then◌else◌, Result, Ok, Err, OnOk, OnErr}
 use Rattle.std.specs.List.{list_any}
-use Rattle.wesl_tree_names.specs.Path.{Text, is_relative}
+use Rattle.wesl_tree_names.specs.Path.{Text, Path, is_relative}
 use Rattle.wesl_tree_interner.specs.Different.{AreDifferent}
 use Rattle.wesl_tree_interner.specs.Interned.{with_text}
 use Rattle.wesl_tree_interner.proofs.Different.{none_passes}

@@ -1,5 +1,5 @@
 -- Texts cut at slashes.
-use Rattle.std.proofs.Common.{◌≡◌, ℕ, Bool, true, false, ◌||◌, eqb-true, List, [], ◌∷◌, ◌++◌, refl, sym, ap, ◌∙◌, append_assoc}
+use Rattle.std.proofs.Common.{◌≡◌, ◌⊎◌, inl, inr, ℕ, zero, suc, Bool, true, false, not, ◌||◌, eqb, eqb-true, List, [], ◌∷◌, ◌++◌, map, All, refl, sym, subst, ap, ◌∙◌, append_assoc, append-nil}
 use Rattle.std.specs.Prelude.{codes, if◌then◌else◌, ◌==◌}
 use Rattle.wesl_tree_base.specs.Pieces.{Text, has, slash, cut, before_first}
 use Rattle.wesl_tree_names.specs.Path.{Origin, absolute, relative, from_package, join_origin, origin_is_relative}

@@ -1,17 +1,18 @@
 -- Ways from a number to those before it.
-use Rattle.std.proofs.Common.{◌≡◌, ℕ, zero, suc, ◌<◌, ◌≤◌, ◌+◌, ◌-◌, true, false, Some, List, [], ◌∷◌, ◌++◌, length, get_or, take, reverse, map, arith, refl, sym, ap, ap₂, ◌∙◌, append_assoc, append-nil}
+use Rattle.std.proofs.Common.{◌≡◌, ℕ, zero, suc, ◌<◌, ◌≤◌, ◌+◌, ◌-◌, Bool, true, false, Some, None, List, [], ◌∷◌, ◌++◌, length, get_or, take, drop, reverse, map, Bor, arith, refl, sym, subst, ap, ap₂, ◌∙◌, append_assoc, append-nil}
 use Rattle.std.specs.Prelude.{slice_get, Result, Ok, Err, IfOk}
 use Rattle.std.proofs.lemmas.List.{map-append, reverse-append}
+use Rattle.wesl_tree_base.specs.Borrowed.{texts}
 use Rattle.wesl_tree_base.specs.Pieces.{Text, has, slash}
-use Rattle.wesl_tree_names.specs.Path.{Origin, absolute, Path, push, extend, is_relative, same_origin}
+use Rattle.wesl_tree_names.specs.Path.{Origin, absolute, relative, from_package, Path, root_path, push, extend, is_relative, join_origin, same_origin}
 use Rattle.wesl_tree_base.specs.declared.ids.NameId.{NameId}
 use Rattle.wesl_link_symbols.specs.declared.ids.PathId.{PathId}
-use Rattle.wesl_link_paths.specs.Longer.{path_in}
+use Rattle.wesl_link_paths.specs.Longer.{IsLonger, path_in}
 use Rattle.wesl_link_paths.specs.Nodes.{AreWhole, IsWholePackage, IsWholePath, above, in_package, is_root, node_path, packaged, part_in, paths_by, root_of}
 use Rattle.wesl_link_paths.specs.declared.node.PathNode.{PathNode}
 use Rattle.wesl_link_paths.specs.declared.node.PathNode.TheVariants.{Root, Package, Under}
-use Rattle.wesl_link_paths.proofs.Lists.{getting, held_below, path_held, path_of}
-use Rattle.wesl_link_paths.proofs.Nodes.{held_at, no_components, noted_root, origin_itself, paths_length}
+use Rattle.wesl_link_paths.proofs.Lists.{below_held, getting, held_below, path_held, path_of}
+use Rattle.wesl_link_paths.proofs.Nodes.{held_at, no_components, noted_root, origin_itself, paths_length, whole_at}
 
 module _ (parts : List Text) (ns : List PathNode) (whole : AreWhole parts ns) where
   abbrev paths : List Path
@@ -181,18 +182,17 @@ components_next p q t found whole e h =
 pub packages_next : (p q : Path) (t : Text) (found : List Text) (whole : Origin) → p ≡ in_package q t → packaged p.origin (reverse found) ≡ whole → packaged q.origin (reverse (found ++ t ∷ [])) ≡ whole
 packages_next p q t found whole e h = ap (packaged q.origin) (reverse_one found t) ∙ (ap (λ r. packaged r.origin (reverse found)) (sym e) ∙ h)
 
--- a text more, and the texts from the last to the first, of what says a text each
-module _ {X : Type 0} (f : X → Text) where
-  pub texts_next : (found new : List X) (x : X) (t : Text) → new ≡ found ++ x ∷ [] → f x ≡ t → map f new ≡ map f found ++ t ∷ []
-  texts_next found new x t e same = ap (map f) e ∙ (map-append f found (x ∷ []) ∙ ap (λ u. map f found ++ u ∷ []) same)
+-- a text more, and the texts from the last to the first
+pub texts_next : (found new : List (Bor Text)) (x : Bor Text) (t : Text) → new ≡ found ++ x ∷ [] → x.now ≡ t → texts new ≡ texts found ++ t ∷ []
+texts_next found new x t e same = ap texts e ∙ (map-append (λ (y : Bor Text). y.now) found (x ∷ []) ∙ ap (λ u. texts found ++ u ∷ []) same)
 
-  pub texts_turned : (found new : List X) → new ≡ reverse found → map f new ≡ reverse (map f found)
-  texts_turned found new e = ap (map f) e ∙ turned found
-    where
-      turned : (xs : List X) → map f (reverse xs) ≡ reverse (map f xs)
-      turned [] = refl
-      turned (x ∷ xs) =
-          ap (map f) (reverse-append (x ∷ []) xs) ∙ (map-append f (reverse xs) (x ∷ []) ∙ (ap (λ l. l ++ f x ∷ []) (turned xs) ∙ sym (reverse-append (f x ∷ []) (map f xs))))
+pub texts_turned : (found new : List (Bor Text)) → new ≡ reverse found → texts new ≡ reverse (texts found)
+texts_turned found new e = ap texts e ∙ turned found
+  where
+    turned : (xs : List (Bor Text)) → texts (reverse xs) ≡ reverse (texts xs)
+    turned [] = refl
+    turned (x ∷ xs) =
+        ap texts (reverse-append (x ∷ []) xs) ∙ (map-append (λ (y : Bor Text). y.now) (reverse xs) (x ∷ []) ∙ (ap (λ l. l ++ x.now ∷ []) (turned xs) ∙ sym (reverse-append (x.now ∷ []) (texts xs))))
 
 -- a root has no components of its own
 pub components_all : (p : Path) (found : List Text) → p ≡ root_of p → found ≡ p.components ++ found

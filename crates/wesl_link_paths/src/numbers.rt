@@ -15,6 +15,7 @@ use indexmap::IndexSet;
 use std::alloc::{AllocError, Global};
 use std::hash::Hash;
 use wesl_link_symbols::ids::{NameId, PathId};
+use wesl_tree_base::copied;
 use wesl_tree_interner::Interner;
 use wesl_tree_names::{ModulePath, PathOrigin};
 
@@ -238,14 +239,14 @@ impl PathNumbers {
     }
 
     /// The components of a path.
-    fn components(&self, alloc: Global, id: PathId) -> Result<Vec<String>, AllocError>
+    fn components(&self, alloc: Global, id: PathId) -> Result<Vec<&str>, AllocError>
         requires { id.0 < length (paths_of self.now) }
-        ensures { IfOk result (λ names. map string_bytes names.items ≡ (path_in (paths_of self.now) id).components) }
+        ensures { IfOk result (λ names. texts names.items ≡ (path_in (paths_of self.now) id).components) }
     {
         let mut names = Vec::new(alloc);
         let mut at = id;
         while let PathNode::Under(_, parent, name) = self.node(at) {
-            names.push(String::from_str(alloc, self.parts.get(name))?)?;
+            names.push(self.parts.get(name))?;
             at = parent;
         }
         names.reverse();
@@ -287,7 +288,7 @@ impl PathNumbers {
         ensures { IfOk result (λ p. slice_get (paths_of self.now) id.0 ≡ Some (path_view p)) }
     {
         let origin = self.origin(alloc, self.root_of(id))?;
-        let components = self.components(alloc, id)?;
+        let components = copied(alloc, &self.components(alloc, id)?)?;
         Ok(ModulePath::new(origin, components))
     }
 

@@ -14,5 +14,3 @@ mod request;
 mod run;
 mod trail;
 mod trodden;
-
-pub use names::asked_from;

@@ -3,8 +3,10 @@ ghost use Rattle.std.specs.Prelude.{◌≡◌, ◌↔◌, [], ◌∷◌, IfOk, I
 ghost use Rattle.wesl_link_symbols.specs.declared.ids.PathId.{PathId};
 ghost use Rattle.wesl_tree_base.specs.declared.ids.NameId.{NameId};
 ghost use Rattle.wesl_link_symbols.specs.declared.symbols.LookUp.{LookUp};
+ghost use Rattle.wesl_link_symbols.specs.Names.{AsksFrom, asked_for};
 ghost use Rattle.wesl_link_symbols.specs.Tables as tables;
 ghost use Rattle.wesl_link_reach.specs.World.{IsAt};
+ghost use Rattle.wesl_link_reach.specs.Asked.{Gains, AsksIn};
 ghost use Rattle.wesl_link_reach.specs.Loading.{ArePlaced, kept_look_up};
 ghost use Rattle.wesl_link_reasons.specs.Reasons.{IsHeld};
 ghost use Rattle.wesl_link_reasons.specs.Searching.{AreLookUps, AsksAt, IsAnswerAt, IsReady, task_in, world_in};
@@ -13,11 +15,10 @@ use crate::node::Node;
 use std::alloc::{AllocError, Global};
 use std::collections::HashMap;
 use wesl_cond_choices::place::Place;
-use wesl_link_reach::asked_from;
 use wesl_link_symbols::ids::{NameId, PathId};
 use wesl_link_symbols::keyed;
-use wesl_link_symbols::symbols::{Answer, LookUp};
-use wesl_link_symbols::table::Table;
+use wesl_link_symbols::symbols::{Answer, LookUp, Reference};
+use wesl_link_symbols::table::{Declaration, Table};
 
 /// The modules of a link, where the module of each path stands among them, and what the link was asked for.
 #[derive(Drop)]
@@ -38,6 +39,49 @@ pub fn place_all(places: &mut HashMap<PathId, usize>, tables: &[Table]) -> Resul
         keyed::put(places, table.path(), index)?;
     }
     Ok(())
+}
+
+/// What a reference asks for.
+fn ask(table: &Table, reference: &Reference<PathId, NameId>) -> LookUp<PathId, NameId>
+    ensures { result ≡ asked_for table.now reference.now }
+{
+    LookUp {
+        asker: Some(table.path()),
+        path: reference.path,
+        name: reference.name,
+        from: reference.from,
+    }
+}
+
+/// Adds what the names used in a declaration ask for.
+fn add_asked(
+    table: &Table,
+    declaration: &Declaration,
+    asked: &mut Vec<LookUp<PathId, NameId>>,
+) -> Result<(), AllocError>
+    ensures { OnOk result (Gains asked.old.items asked.new.items (AsksIn table.now declaration.now.references)) }
+{
+    for reference in declaration.references() {
+        asked.push(ask(table, reference))?;
+    }
+    Ok(())
+}
+
+/// What the declarations of that name ask for, or where there is none, the const_asserts.
+fn asked_from(
+    alloc: Global,
+    table: &Table,
+    name: Option<NameId>,
+) -> Result<Vec<LookUp<PathId, NameId>>, AllocError>
+    ensures { IfOk result (λ v. (l : LookUp PathId NameId) → Contains v.items l ↔ AsksFrom table.now name l) }
+{
+    let mut asked = Vec::new(alloc);
+    let mut at = table.latest_of(name);
+    'declarations: while let Some(index) = at {
+        add_asked(table, &table.declarations()[index], &mut asked)?;
+        at = table.earlier_of(index, name);
+    }
+    Ok(asked)
 }
 
 impl<'a> Map<'a> {

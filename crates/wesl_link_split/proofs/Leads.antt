@@ -13,7 +13,6 @@ use Rattle.wesl_link_symbols.specs.declared.symbols.Import.{Import}
 use Rattle.wesl_link_split.specs.Grouped.{ids, same_id, kind_of, kinds_of, may_lead, AreSorted, IsStart}
 use Rattle.wesl_link_split.specs.SightView.{IsPassed}
 use Rattle.wesl_link_split.specs.Split as split
-use Rattle.wesl_link_split.specs.Told.{several, one, changes_in, told_of}
 use Rattle.wesl_link_split.specs.Split.{Binder, Scope}
 use Rattle.wesl_link_split.specs.declared.binders.Start.TheVariants as starts
 use Rattle.wesl_link_symbols.specs.RowView.{IsCovered}
@@ -204,13 +203,13 @@ all_lead bs = filter_all (may_lead false) bs (λ b. refl)
 -- ---- what is found by that
 
 module _ (s : Scope PathId NameId) (b : Ours) where
-  pub told_several : (bs : List Ours) → IsStart starts.Several bs → told_of s b bs ≡ several
-  told_several [] e = absurd (let z : ⊥ = cc in z)
-  told_several (c ∷ cs) e = ap (λ x. if x then several else one c.path c.item (if split.leads_on ids s c then Some (changes_in s b.item b.stands) else None)) e
+  pub found_several : (bs : List Ours) → IsStart starts.Several bs → split.found_of ids s b bs ≡ split.several
+  found_several [] e = absurd (let z : ⊥ = cc in z)
+  found_several (c ∷ cs) e = ap (λ x. if x then split.several else split.one c.path c.item (if split.leads_on ids s c then split.sight ids s b.item b.stands else [])) e
 
-  pub told_one : (bs : List Ours) (c : Ours) → IsStart (starts.One c) bs → told_of s b bs ≡ one c.path c.item (if split.leads_on ids s c then Some (changes_in s b.item b.stands) else None)
-  told_one [] c e = absurd (let (f, g) = e in let z : ⊥ = cc in z)
-  told_one (d ∷ cs) c (f, g) =
+  pub found_one : (bs : List Ours) (c : Ours) → IsStart (starts.One c) bs → split.found_of ids s b bs ≡ split.one c.path c.item (if split.leads_on ids s c then split.sight ids s b.item b.stands else [])
+  found_one [] c e = absurd (let (f, g) = e in let z : ⊥ = cc in z)
+  found_one (d ∷ cs) c (f, g) =
       let same : d ≡ c = cc in
-      ap (λ x. if x then several else one d.path d.item (if split.leads_on ids s d then Some (changes_in s b.item b.stands) else None)) f
-      ∙ ap (λ e. one e.path e.item (if split.leads_on ids s e then Some (changes_in s b.item b.stands) else None)) same
+      ap (λ x. if x then split.several else split.one d.path d.item (if split.leads_on ids s d then split.sight ids s b.item b.stands else [])) f
+      ∙ ap (λ e. split.one e.path e.item (if split.leads_on ids s e then split.sight ids s b.item b.stands else [])) same

@@ -12,4 +12,3 @@ pub mod Anywhere
 pub mod Passing
 pub mod Leads
 pub mod OneTarget
-pub mod Noting

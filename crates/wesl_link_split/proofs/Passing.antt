@@ -6,9 +6,9 @@ use Rattle.std.proofs.lemmas.Option.{slice_get-map, slice_get_within}
 use Rattle.wesl_tree_base.specs.declared.ids.NameId.{NameId}
 use Rattle.std.specs.Global.{Vec}
 use Rattle.wesl_tree_interner.proofs.Different.{get_cases}
-use Rattle.wesl_cond_covers.specs.SightsView.{AreSightsOf}
+use Rattle.wesl_cond_covers.specs.CoversView.{AreCoversOf}
 use Rattle.wesl_cond_covers.specs.Unseen.{AreUnseen}
-use Rattle.wesl_cond_covers.specs.declared.sights.Sights.{Sights}
+use Rattle.wesl_cond_covers.specs.declared.covers.Covers.{Covers}
 use Rattle.wesl_cond_choices.specs.declared.place.Place.{Place}
 use Rattle.wesl_cond_choices.specs.declared.place.Place.TheVariants.{Always}
 use Rattle.wesl_link_symbols.specs.declared.ids.PathId.{PathId}
@@ -59,32 +59,28 @@ passed_by s n from i j of h k b low high at =
     let unseen = h k b.stands low high there in
     ap (λ y. sees ids s from (if y then b.stands else Always)) of ∙ ap₂ (λ u v. u || v) unseen.0 unseen.1
 
--- ---- where the binders of each group stand
+-- ---- the unions of each group
 
-pub covered_none : (alive : List (List Place)) (groups : List (Vec (Binder PathId NameId))) (sights : List Sights) → sights ≡ [] → AreCovered alive groups sights
-covered_none alive groups sights none i g x at held two = absurd (let e : slice_get [] i ≡ Some x = subst (λ (l : List Sights). slice_get l i ≡ Some x) none held in let z : ⊥ = cc in z)
+pub covered_none : (alive : List (List Place)) (groups : List (Vec (Binder PathId NameId))) (covers : List Covers) → covers ≡ [] → AreCovered alive groups covers
+covered_none alive groups covers none i g c at held = absurd (let e : slice_get [] i ≡ Some c = subst (λ (l : List Covers). slice_get l i ≡ Some c) none held in let z : ⊥ = cc in z)
 
 -- one more
-pub covered_more : (alive : List (List Place)) (groups : List (Vec (Binder PathId NameId))) (sights : List Sights) (g : Vec (Binder PathId NameId)) (x : Sights) → slice_get groups (length sights) ≡ Some g
-    → (split.has_two_targets ids g.items ≡ true → AreSightsOf alive (places_of g.items) x) → AreCovered alive groups sights → AreCovered alive groups (sights ++ x ∷ [])
-covered_more alive groups sights g x at of h i d y there held two = elim (get_cases sights x i y held) [
-  | inl early ↦ h i d y there early two
+pub covered_more : (alive : List (List Place)) (groups : List (Vec (Binder PathId NameId))) (covers : List Covers) (g : Vec (Binder PathId NameId)) (c : Covers) → slice_get groups (length covers) ≡ Some g
+    → AreCoversOf alive (places_of g.items) c → AreCovered alive groups covers → AreCovered alive groups (covers ++ c ∷ [])
+covered_more alive groups covers g c at of h i x y there held = elim (get_cases covers c i y held) [
+  | inl early ↦ h i x y there early
   | inr (last, is) ↦
-      let same : Some g ≡ Some d = sym at ∙ (ap (slice_get groups) (sym last) ∙ there) in
-      let e : g ≡ d = cc in
-      subst (λ (v : Vec (Binder PathId NameId)). AreSightsOf alive (places_of v.items) y) e
-      (subst (λ (z : Sights). AreSightsOf alive (places_of g.items) z) is (of (subst (λ (v : Vec (Binder PathId NameId)). split.has_two_targets ids v.items ≡ true) (sym e) two)))
+      let same : Some g ≡ Some x = sym at ∙ (ap (slice_get groups) (sym last) ∙ there) in
+      let e : g ≡ x = cc in
+      subst (λ (v : Vec (Binder PathId NameId)). AreCoversOf alive (places_of v.items) y) e (subst (λ (d : Covers). AreCoversOf alive (places_of g.items) d) is of)
 ]
 
--- where the binders of a name with several targets stand
-pub covered_at : (alive : List (List Place)) (binders : List (Binder PathId NameId)) (names : List NameId) (groups : List (Vec (Binder PathId NameId))) (sights : List Sights) (i : ℕ) (n : NameId) (x : Sights)
-    → AreGrouped binders names groups → AreCovered alive groups sights → slice_get names i ≡ Some n → slice_get sights i ≡ Some x → split.is_split ids binders n ≡ true
-    → AreSightsOf alive (places_of (split.of_name ids n binders)) x
-covered_at alive binders names groups sights i n x grouped covered named held two =
+-- the unions of a name's binders
+pub covered_at : (alive : List (List Place)) (binders : List (Binder PathId NameId)) (names : List NameId) (groups : List (Vec (Binder PathId NameId))) (covers : List Covers) (i : ℕ) (n : NameId) (c : Covers)
+    → AreGrouped binders names groups → AreCovered alive groups covers → slice_get names i ≡ Some n → slice_get covers i ≡ Some c → AreCoversOf alive (places_of (split.of_name ids n binders)) c
+covered_at alive binders names groups covers i n c grouped covered named held =
     let (g, at) = some_at groups i (omega (arith, slice_get_within names i n named, grouped.long)) in
-    let is : g.items ≡ split.of_name ids n binders = grouped.each i n g named at in
-    subst (λ (bs : List (Binder PathId NameId)). AreSightsOf alive (places_of bs) x) is
-    (covered i g x at held (subst (λ (bs : List (Binder PathId NameId)). split.has_two_targets ids bs ≡ true) (sym is) two))
+    subst (λ (bs : List (Binder PathId NameId)). AreCoversOf alive (places_of bs) c) (grouped.each i n g named at) (covered i g c at held)
 
 pub if_some : {X : Type 0} (P Q : X → Type 0) (o : Option X) → ((x : X) → P x → Q x) → IfSome o P → IfSome o Q
 if_some P Q None more h = tt

@@ -1,8 +1,11 @@
 -- Lists in which two elements differ by a test, and tests of numbers.
 use Rattle.std.proofs.Common.{◌≡◌, ℕ, zero, suc, Bool, true, false, ◌||◌, List, [], ◌∷◌, arith, refl, sym, subst, ap, ap₂, ◌∙◌}
 use Rattle.std.specs.Prelude.{Contains, not, ◌&&◌, ◌==◌}
+use Rattle.std.specs.Bool.{Decides}
+use Rattle.std.specs.Cmp.Lexicographic.{pointwise}
 use Rattle.std.specs.List.{list_any}
 use Rattle.std.proofs.lemmas.Bool.Decides.{Decides-eqb}
+use Rattle.std.proofs.lemmas.Slice.Eq.{slice_eq-Decides}
 use Rattle.wesl_cond_choices.specs.declared.place.Place.{Place}
 use Rattle.wesl_cond_choices.specs.declared.place.Place.TheVariants as places
 use Rattle.wesl_cond_choices.specs.Places.{same_place}
@@ -116,10 +119,15 @@ sight_eq (false ∷ xs) (true ∷ ys) h = absurd (let z : ⊥ = cc in z)
 sight_eq [] (y ∷ ys) h = absurd (let z : ⊥ = cc in z)
 sight_eq (x ∷ xs) [] h = absurd (let z : ⊥ = cc in z)
 
-pub sight_itself : (xs : List Bool) → split.same_sight xs xs ≡ true
+sight_itself : (xs : List Bool) → split.same_sight xs xs ≡ true
 sight_itself [] = refl
 sight_itself (true ∷ xs) = sight_itself xs
 sight_itself (false ∷ xs) = sight_itself xs
+
+pub sight_test : {E : Bool → Bool → Bool} → ((a b : Bool) → Decides (E a b) (a ≡ b)) → (xs ys : List Bool) (r : Bool) → r ≡ pointwise E xs ys → r ≡ split.same_sight xs ys
+sight_test decides xs ys r e =
+    let d : Decides r (xs ≡ ys) = slice_eq-Decides decides xs ys r e in
+    same_bool r (split.same_sight xs ys) (λ h. ap (split.same_sight xs) (sym (d.0 h)) ∙ sight_itself xs) (λ h. d.1 (sight_eq xs ys h))
 
 -- whether two differ is whether one differs from the first
 module _ {X : Type 0} (t : X → X → Bool) (equal : (x y z : X) → t x y ≡ true → t x z ≡ true → t y z ≡ true) where

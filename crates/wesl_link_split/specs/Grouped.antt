@@ -1,10 +1,12 @@
 -- The binders of a module by numbers, as the code keeps them.
 use Rattle.std.specs.Prelude.{◌≡◌, ◌≤◌, ◌==◌, ◌&&◌, ◌++◌, ℕ, Bool, true, not, false, if◌then◌else◌, nat_lt, Option, List, [], ◌∷◌, None, Some, Contains, length, map, slice_get, take}
+use Rattle.std.specs.Bool.{beq}
 use Rattle.std.specs.Global.{Vec}
 use Rattle.std.specs.List.{filter, list_any}
+use Rattle.wesl_cond_choices.specs.Places.{same_place}
 use Rattle.wesl_cond_choices.specs.declared.place.Place.TheVariants.{Always}
-use Rattle.wesl_cond_covers.specs.SightsView.{AreSightsOf}
-use Rattle.wesl_cond_covers.specs.declared.sights.Sights.{Sights}
+use Rattle.wesl_cond_covers.specs.CoversView.{AreCoversOf}
+use Rattle.wesl_cond_covers.specs.declared.covers.Covers.{Covers}
 use Rattle.wesl_cond_choices.specs.declared.place.Place.{Place}
 use Rattle.wesl_link_symbols.specs.declared.ids.PathId.{PathId}
 use Rattle.wesl_tree_base.specs.declared.ids.NameId.{NameId}
@@ -17,6 +19,8 @@ use Rattle.wesl_link_split.specs.Split as split
 use Rattle.wesl_link_split.specs.Split.{Binder, Equality}
 use Rattle.wesl_link_split.specs.declared.binders.Aim.{Aim}
 use Rattle.wesl_link_split.specs.declared.binders.Facts.{Facts}
+use Rattle.wesl_link_split.specs.declared.binders.Finding.{Finding}
+use Rattle.wesl_link_split.specs.declared.binders.Finding.TheVariants as findings
 use Rattle.wesl_link_split.specs.declared.binders.Start.{Start}
 use Rattle.wesl_link_split.specs.declared.binders.Start.TheVariants as starts
 
@@ -27,6 +31,12 @@ same_id m n = m.0 == n.0
 -- numbers are one where they are equal
 abbrev pub ids : Equality PathId NameId
 ids = record { path = λ p q. p.0 == q.0; name = same_id }
+
+-- how an import finds what it aims at, as the definitions have it
+abbrev pub finding_view : Finding → split.Finding PathId NameId
+finding_view findings.Nothing = split.nothing
+finding_view findings.Several = split.several
+finding_view (findings.One p n sight) = split.one p n sight.items
 
 -- one of these binders is a declaration
 abbrev pub has_declaration : List (Binder PathId NameId) → Bool
@@ -88,6 +98,10 @@ IsLeast ns n = ((m : ℕ) → Contains ns m → n ≤ m) × Contains ns n
 abbrev pub asked_first : List Aim → List (Reference PathId NameId)
 asked_first xs = map (λ x. x.reference) (filter (λ x. not (list_any (λ y. nat_lt y.order x.order) xs)) xs)
 
+-- two binders are one
+abbrev pub same_binder : Binder PathId NameId → Binder PathId NameId → Bool
+same_binder b c = split.same_target ids b c && (same_id b.bound c.bound && (beq b.declares c.declares && same_place b.stands c.stands))
+
 -- two of these ask for different things
 abbrev pub are_unlike : List (Reference PathId NameId) → Bool
 are_unlike rs = list_any (λ a. list_any (λ b. not (split.same_reference ids a b)) rs) rs
@@ -103,11 +117,10 @@ pub record AreGrouped (binders : List (Binder PathId NameId)) (names : List Name
 abbrev pub places_of : List (Binder PathId NameId) → List Place
 places_of bs = map (λ b. b.stands) bs
 
--- where the binders of each group stand is kept, if it is, where they have several targets
-abbrev pub AreCovered : List (List Place) → List (Vec (Binder PathId NameId)) → List Sights → Type 0
-AreCovered alive groups sights =
-    (i : ℕ) (g : Vec (Binder PathId NameId)) (x : Sights) → slice_get groups i ≡ Some g → slice_get sights i ≡ Some x
-    → split.has_two_targets ids g.items ≡ true → AreSightsOf alive (places_of g.items) x
+-- the unions that each group has, if it has some, are those of the choices that keep its binders
+abbrev pub AreCovered : List (List Place) → List (Vec (Binder PathId NameId)) → List Covers → Type 0
+AreCovered alive groups covers =
+    (i : ℕ) (g : Vec (Binder PathId NameId)) (c : Covers) → slice_get groups i ≡ Some g → slice_get covers i ≡ Some c → AreCoversOf alive (places_of g.items) c
 
 -- one binder more is put to those of its name
 abbrev pub GroupsNext : List NameId → List (Vec (Binder PathId NameId)) → Binder PathId NameId → List NameId → List (Vec (Binder PathId NameId)) → Type 0

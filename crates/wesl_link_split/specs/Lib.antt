@@ -4,7 +4,5 @@ pub mod Uses
 pub mod SplitRows
 pub mod Grouped
 pub mod SightView
-pub mod Told
-pub mod Noted
 pub mod ScopeView
 pub mod Laws

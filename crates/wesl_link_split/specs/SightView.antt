@@ -1,9 +1,10 @@
 -- The binders of a module by numbers, as the code holds them, and what they aim at.
 use Rattle.std.specs.Prelude.{◌≡◌, ◌≤◌, ◌<◌, ℕ, true, false, List, [], ◌∷◌, Contains, Some, map, slice_get, if◌then◌else◌}
+use Rattle.std.specs.Global.{Vec}
 use Rattle.wesl_cond_choices.specs.declared.place.Place.{Place}
 use Rattle.wesl_cond_choices.specs.declared.place.Place.TheVariants.{Always}
-use Rattle.wesl_cond_covers.specs.SightsView.{AreSightsOf}
-use Rattle.wesl_cond_covers.specs.declared.sights.Sights.{Sights}
+use Rattle.wesl_cond_covers.specs.CoversView.{AreCoversOf}
+use Rattle.wesl_cond_covers.specs.declared.covers.Covers.{Covers}
 use Rattle.wesl_link_symbols.specs.declared.ids.PathId.{PathId}
 use Rattle.wesl_tree_base.specs.declared.ids.NameId.{NameId}
 use Rattle.wesl_link_symbols.specs.declared.symbols.Reference.{Reference}
@@ -37,13 +38,14 @@ abbrev pub IsPassed : split.Scope PathId NameId → NameId → Place → ℕ →
 IsPassed s n from i j =
     (k : ℕ) (b : Binder PathId NameId) → i ≤ k → k < j → slice_get (split.of_name ids n s.binders) k ≡ Some b → split.sees ids s from (split.place_at ids s n b.stands) ≡ false
 
--- the name has several targets, and this says where its binders stand
-abbrev pub HasUnions : split.Scope PathId NameId → NameId → Sights → Type 0
-HasUnions s n x = (split.is_split ids s.binders n ≡ true) × AreSightsOf s.alive (places_of (split.of_name ids n s.binders)) x
+-- the name has several targets, and these are the unions of the choices that keep its binders
+abbrev pub HasUnions : split.Scope PathId NameId → NameId → Covers → Type 0
+HasUnions s n covers = (split.is_split ids s.binders n ≡ true) × AreCoversOf s.alive (places_of (split.of_name ids n s.binders)) covers
 
--- what these binders aim at
-abbrev pub AreAims : split.Scope PathId NameId → List (Binder PathId NameId × Aim) → Type 0
-AreAims s aims = (b : Binder PathId NameId) (a : Aim) → Contains aims (b, a) → a ≡ aim_in s b
+-- of each bound name what its binders aim at, where some name of the module has several targets
+abbrev pub AreAims : Sight → List (Vec Aim) → Type 0
+AreAims s aims =
+    split.has_split ids (sight_view s).binders ≡ true → map (λ v. v.items) aims ≡ map (λ g. map (aim_in (sight_view s)) g.items) s.groups.items
 
 -- the name asks for this, from wherever it is used
 abbrev pub IsAnswered : split.Scope PathId NameId → NameId → Answered → Type 0

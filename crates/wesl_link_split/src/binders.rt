@@ -3,19 +3,16 @@ ghost use Rattle.std.specs.Prelude.{◌≡◌, ◌++◌, ◌∷◌, [], ⊤, nat
 ghost use Rattle.std.specs.List.{list_any};
 ghost use Rattle.wesl_cond_choices.specs.declared.place.Place.TheVariants as places;
 ghost use Rattle.wesl_link_split.specs.Grouped as grouped;
-ghost use Rattle.wesl_link_split.specs.Grouped.{ids};
-ghost use Rattle.std.proofs.Common.{rules};
-ghost use Rattle.std.specs.Cmp.Rules.{comparing};
+ghost use Rattle.wesl_link_split.specs.Grouped.{ids, finding_view};
 ghost use Rattle.wesl_link_split.specs.Split as split;
 
 use std::alloc::AllocError;
 use wesl_cond_choices::place::Place;
 use wesl_link_symbols::ids::{NameId, PathId};
-use wesl_link_symbols::keyed::Identity;
 use wesl_link_symbols::symbols::{Import, Reference};
 
 /// A binder of a module, for any kind of path `P` and of name `N`.
-#[derive(Copy, PartialEq, Eq, Hash, Drop)]
+#[derive(Copy, Drop)]
 pub struct Binder<P, N> {
     /// The name that it binds.
     pub bound: N,
@@ -38,10 +35,6 @@ impl<P: Copy, N: Copy> Clone for Binder<P, N> {
     fn clone(&self) -> Result<Binder<P, N>, AllocError> {
         Ok(*self)
     }
-}
-
-impl Identity for Binder<PathId, NameId> {
-    ghost same = { Prim.search (comparing, rules) };
 }
 
 /// Whether two binders aim at one thing.
@@ -92,6 +85,62 @@ pub(crate) fn placed(is_split: bool, stands: Place) -> Place
     ensures { result ≡ (if is_split then stands else places.Always) }
 {
     if is_split { stands } else { Place::Always }
+}
+
+/// How an import finds what it aims at, where that has several targets in its own module.
+#[derive(Drop)]
+pub(crate) enum Finding {
+    /// It sees no binder of it.
+    Nothing,
+    /// It sees two targets.
+    Several,
+    /// It sees one, the item of the module at a path; and which binders it sees, where that has several targets in the module too.
+    One(PathId, NameId, Vec<bool>),
+}
+
+/// Whether two lists are equal.
+fn is_same_sight(a: &[bool], b: &[bool]) -> bool
+    ensures { result ≡ split.same_sight a.now b.now }
+{
+    a == b
+}
+
+impl Finding {
+    /// Which imports are asked before others.
+    pub(crate) fn order(&self) -> usize
+        ensures { result ≡ split.order_of ids (finding_view self.now) }
+    {
+        match self {
+            Finding::Nothing => 0,
+            Finding::Several => 1,
+            Finding::One(_, _, _) => 2,
+        }
+    }
+
+    /// Whether two imports find alike.
+    fn is_like(&self, other: &Finding) -> bool
+        ensures { result ≡ split.same_finding ids (finding_view self.now) (finding_view other.now) }
+    {
+        match (self, other) {
+            (Finding::Nothing, Finding::Nothing) => true,
+            (Finding::Several, Finding::Several) => true,
+            (Finding::One(path, item, sight), Finding::One(other_path, other_item, other_sight)) =>
+                { path == other_path && item == other_item && is_same_sight(sight, other_sight) }
+            _ => false,
+        }
+    }
+}
+
+/// Whether the other binder asks for the first: an import with the same target that finds it alike.
+pub(crate) fn asks_for(
+    binder: &Binder<PathId, NameId>,
+    finding: &Finding,
+    other: &Binder<PathId, NameId>,
+    found: &Finding,
+) -> bool
+    ensures { result ≡ grouped.asks_for binder.now (finding_view finding.now) other.now (finding_view found.now) }
+{
+    !other.declares && has_one_target(binder, other) && finding.is_like(found)
 }
 
 /// Whether one of these binders is a declaration.
@@ -370,4 +419,11 @@ pub(crate) fn binder_of(import: &Import<PathId, NameId>) -> Binder<PathId, NameI
         declares: false,
         stands: import.place,
     }
+}
+
+/// Whether two binders are one.
+pub(crate) fn is_same_binder(a: &Binder<PathId, NameId>, b: &Binder<PathId, NameId>) -> bool
+    ensures { result ≡ grouped.same_binder a.now b.now }
+{
+    has_one_target(a, b) && a.bound == b.bound && a.declares == b.declares && a.stands == b.stands
 }

@@ -1,7 +1,6 @@
 //! Names with several targets in one module (split names), and what names ask for there.
 #![tactic(auto)]
 
-pub mod askers;
 pub mod binders;
 pub mod laws;
 pub mod sight;

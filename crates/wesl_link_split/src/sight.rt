@@ -1,30 +1,25 @@
 //! The binders of a module by their names, which of them are seen from a place, and what they aim at, by numbers (WESL,
 //! "Imports" and "ConditionalTranslation").
-ghost use Rattle.std.specs.Prelude.{◌≡◌, ◌≤◌, ◌&&◌, ◌++◌, [], true, false, if◌then◌else◌, length, map, not, slice_get, take, IfOk, IfSome, OnOk, None, Some};
+ghost use Rattle.std.specs.Prelude.{◌≡◌, ◌≤◌, ◌&&◌, ◌++◌, [], true, if◌then◌else◌, length, map, not, slice_get, take, IfOk, IfSome, OnOk, Some};
 ghost use Rattle.std.specs.List.{filter, list_any};
-ghost use Rattle.std.specs.Option.{option_map};
-ghost use Rattle.wesl_cond_covers.specs.Sight.{changes_from};
-ghost use Rattle.wesl_cond_covers.specs.SightsView.{AreSightsOf};
+ghost use Rattle.wesl_cond_covers.specs.CoversView.{AreCoversOf};
 ghost use Rattle.wesl_link_split.specs.Grouped as listed;
-ghost use Rattle.wesl_link_split.specs.Grouped.{ids, kind_of, kinds_of, may_lead, places_of, AreCovered, AreGrouped, AreSorted, GroupsNext, IsStart};
+ghost use Rattle.wesl_link_split.specs.Grouped.{ids, finding_view, kind_of, kinds_of, may_lead, places_of, AreCovered, AreGrouped, AreSorted, GroupsNext, IsStart};
 ghost use Rattle.wesl_cond_choices.specs.declared.place.Place.TheVariants as places;
 ghost use Rattle.wesl_link_targets.specs.Sought.{is_sought};
 ghost use Rattle.wesl_link_targets.specs.TargetsView.{AreTargetsOf};
 ghost use Rattle.wesl_link_split.specs.Split as split;
 
-use crate::askers::{Finding, Question, first_asker};
 use crate::binders::{
-    Aim, Binder, Facts, Start, facts_of, has_two_targets, keep, keep_kind, kind_of, placed,
+    Aim, Binder, Facts, Finding, Start, asks_for, facts_of, has_two_targets, keep, keep_kind,
+    kind_of, placed,
 };
 use indexmap::IndexSet;
 use std::alloc::{AllocError, Global};
-use std::collections::HashMap;
 use wesl_cond_choices::alive::Alive;
 use wesl_cond_choices::place::Place;
-use wesl_cond_covers::laws::law_of_sights;
-use wesl_cond_covers::sights::Sights;
+use wesl_cond_covers::covers::Covers;
 use wesl_link_symbols::ids::{NameId, PathId};
-use wesl_link_symbols::keyed;
 use wesl_link_symbols::symbols::{Import, Reference};
 use wesl_link_targets::targets::{Sought, Targets};
 
@@ -61,14 +56,14 @@ pub struct Sight {
     facts: Vec<Facts>,
     is_any_split: bool,
     alive: Alive,
-    // Of each name with several targets where its binders stand, by the choices that keep these, where choices are known.
-    sights: Vec<Sights>,
+    // Of each name with several targets unions of the choices that keep its binders, where choices are known.
+    covers: Vec<Covers>,
     // The binders of these names by their targets, where choices are known.
     targets: Option<Targets>,
     pub ghost grouped: { AreGrouped binders.items names.keys groups.items },
     pub ghost facts_are: { facts.items ≡ map (λ g. listed.facts_of g.items) groups.items },
     pub ghost split: { is_any_split ≡ split.has_split ids binders.items },
-    pub ghost covered: { AreCovered alive groups.items sights.items },
+    pub ghost covered: { AreCovered alive groups.items covers.items },
     pub ghost sorted: { AreSorted alive (kinds_of binders.items) targets },
 }
 
@@ -126,43 +121,41 @@ fn add_places(places: &mut Vec<Place>, group: &[Binder<PathId, NameId>]) -> Resu
     Ok(())
 }
 
-/// Where these binders of a name stand, by the choices that keep them, where they have several targets.
-fn sights_of(
+/// The unions of the choices that keep these binders of a name, where they have several targets.
+fn covers_of(
     alloc: Global,
     alive: &Alive,
     group: &[Binder<PathId, NameId>],
-) -> Result<Sights, AllocError>
-    ensures { IfOk result (λ x. split.has_two_targets ids group.now ≡ true → AreSightsOf alive.now (places_of group.now) x) }
+) -> Result<Covers, AllocError>
+    ensures { IfOk result (λ c. AreCoversOf alive.now (places_of group.now) c) }
 {
     if !has_two_targets(group) {
-        return Ok(Sights::none(alloc));
+        return Ok(Covers::none(alloc));
     }
     let mut places = Vec::new(alloc);
     add_places(&mut places, group)?;
-    Sights::of(alloc, alive, places)
+    Covers::of(alloc, alive, &places)
 }
 
-/// Adds where the binders of each group stand.
-fn add_sights(
+/// Adds the unions of each group.
+fn add_covers(
     alloc: Global,
     alive: &Alive,
-    sights: &mut Vec<Sights>,
+    covers: &mut Vec<Covers>,
     groups: &[Vec<Binder<PathId, NameId>>],
 ) -> Result<(), AllocError>
-    requires { sights.old.items ≡ [] }
-    ensures { OnOk result (AreCovered alive.now groups.now sights.new.items) }
+    requires { covers.old.items ≡ [] }
+    ensures { OnOk result (AreCovered alive.now groups.now covers.new.items) }
 {
     for group in groups {
-        let one = sights_of(alloc, alive, group)?;
-        sights.push(one)?;
+        let one = covers_of(alloc, alive, group)?;
+        covers.push(one)?;
     }
     Ok(())
 }
 
 impl Sight {
-    ghost use Rattle.wesl_link_split.specs.Noted.{AddsAim, AreAskers, AreNoted, AreNotedIf, IsAimAfter};
     ghost use Rattle.wesl_link_split.specs.SightView.{aim_in, sight_view, whole, AreAims, HasUnions, IsGroup, IsPassed};
-    ghost use Rattle.wesl_link_split.specs.Told.{changes_in, told, told_of, told_view};
     ghost use Rattle.wesl_tree_base.specs.declared.ids.NameId.{NameId};
 
     /// The module with this path and these binders, of which no choice of flags is known yet. Refused for want of memory
@@ -180,7 +173,7 @@ impl Sight {
         let mut facts = Vec::new(alloc);
         add_facts(&mut facts, &groups)?;
         let is_any_split = is_any_split(&facts);
-        let sights = Vec::new(alloc);
+        let covers = Vec::new(alloc);
         Ok(Sight {
             own,
             binders,
@@ -189,7 +182,7 @@ impl Sight {
             facts,
             is_any_split,
             alive: Alive::none(),
-            sights,
+            covers,
             targets: None,
         })
     }
@@ -198,19 +191,19 @@ impl Sight {
     pub(crate) fn with_alive(self, alloc: Global, alive: Alive) -> Result<Sight, AllocError>
         ensures { IfOk result (λ s. sight_view s ≡ record { own = (sight_view self).own; binders = (sight_view self).binders; alive = alive }) }
     {
-        let mut sights = Vec::new(alloc);
+        let mut covers = Vec::new(alloc);
         if !self.is_any_split {
-            return Ok(self.with_sights(alive, sights, None));
+            return Ok(self.with_covers(alive, covers, None));
         }
-        add_sights(alloc, &alive, &mut sights, &self.groups)?;
+        add_covers(alloc, &alive, &mut covers, &self.groups)?;
         let targets = self.targets_over(alloc, &alive)?;
-        Ok(self.with_sights(alive, sights, Some(targets)))
+        Ok(self.with_covers(alive, covers, Some(targets)))
     }
 
-    /// The same module, of which some choice of flags keeps these places together, with where its names' binders stand, and
+    /// The same module, of which some choice of flags keeps these places together, with the unions of its names' binders, and
     /// with these by their targets.
-    fn with_sights(self, alive: Alive, sights: Vec<Sights>, targets: Option<Targets>) -> Sight
-        requires sights { AreCovered alive self.groups.items sights.items }
+    fn with_covers(self, alive: Alive, covers: Vec<Covers>, targets: Option<Targets>) -> Sight
+        requires covers { AreCovered alive self.groups.items covers.items }
         requires targets { AreSorted alive (kinds_of self.binders.items) targets }
         ensures { sight_view result ≡ record { own = (sight_view self).own; binders = (sight_view self).binders; alive = alive } }
     {
@@ -222,7 +215,7 @@ impl Sight {
             facts,
             is_any_split,
             alive: _,
-            sights: _,
+            covers: _,
             targets: _,
         } = self;
         Sight {
@@ -233,7 +226,7 @@ impl Sight {
             facts,
             is_any_split,
             alive,
-            sights,
+            covers,
             targets,
         }
     }
@@ -331,43 +324,43 @@ impl Sight {
         place == Place::Always || self.alive.together(from, place)
     }
 
-    /// Where the binders of the name with this index stand, if that is kept.
-    fn held_sights(&self, index: usize) -> Option<&Sights>
-        ensures { IfSome result (λ x. slice_get self.now.sights.items index ≡ Some x.now) }
+    /// The unions that are kept at an index.
+    fn held_covers(&self, index: usize) -> Option<&Covers>
+        ensures { IfSome result (λ c. slice_get self.now.covers.items index ≡ Some c.now) }
     {
-        self.sights.get(index)
+        self.covers.get(index)
     }
 
-    /// Where the binders of a name with several targets stand, where choices are known.
-    fn sights_at(&self, name: NameId) -> Option<&Sights>
-        requires { split.is_split ids (sight_view self.now).binders name ≡ true }
-        ensures { IfSome result (λ x. HasUnions (sight_view self.now) name x.now) }
+    /// The unions of a name's binders, where choices are known.
+    fn covers_at(&self, name: NameId) -> Option<&Covers>
+        ensures { IfSome result (λ c. AreCoversOf (sight_view self.now).alive (places_of (split.of_name ids name (sight_view self.now).binders)) c.now) }
     {
         match self.names.get_index_of(&name) {
-            Some(index) => self.held_sights(index),
+            Some(index) => self.held_covers(index),
             None => None,
         }
     }
 
-    /// By what the binders of a name are passed that are not seen, where the name has several targets and choices are known.
-    pub(crate) fn unions(&self, name: NameId, is_split: bool) -> Option<&Sights>
+    /// The unions by which the binders of a name are passed that are not seen, where the name has several targets and choices
+    /// are known.
+    pub(crate) fn unions(&self, name: NameId, is_split: bool) -> Option<&Covers>
         requires { is_split ≡ split.is_split ids (sight_view self.now).binders name }
-        ensures { IfSome result (λ x. HasUnions (sight_view self.now) name x.now) }
+        ensures { IfSome result (λ c. HasUnions (sight_view self.now) name c.now) }
     {
         if !is_split {
             return None;
         }
-        self.sights_at(name)
+        self.covers_at(name)
     }
 
     /// The index of the first binder of a name with these unions, from one index on, that is not passed: from `from` none of
     /// those before it is seen. Where there are none, none is passed.
-    pub(crate) fn next(&self, unions: Option<&Sights>, from: Place, index: usize) -> usize
+    pub(crate) fn next(&self, unions: Option<&Covers>, from: Place, index: usize) -> usize
         ensures ahead { index ≤ result }
         ensures unseen { (name : NameId) → IfSome unions.entry (λ c. HasUnions (sight_view self.now) name c.now) → IsPassed (sight_view self.now) name from index result }
     {
         match unions {
-            Some(sights) => sights.next(&self.alive, from, index),
+            Some(covers) => covers.next(&self.alive, from, index),
             None => index,
         }
     }
@@ -502,6 +495,19 @@ impl Sight {
         }
     }
 
+    /// Adds of each binder of a name whether it is seen from a place.
+    fn add_sight(&self, found: &mut Vec<bool>, name: NameId, from: Place) -> Result<(), AllocError>
+        requires { found.old.items ≡ [] }
+        ensures { OnOk result (found.new.items ≡ split.sight ids (sight_view self.now) name from) }
+    {
+        let group = self.group(name);
+        let is_split = self.is_split(name);
+        for binder in group {
+            found.push(self.sees(from, placed(is_split, binder.stands)))?;
+        }
+        Ok(())
+    }
+
     /// Whether a name has several targets in this very module, and the path is its own.
     pub(crate) fn is_own_split(&self, path: PathId, name: NameId) -> bool
         ensures { result ≡ split.is_own_split ids (sight_view self.now) path name }
@@ -529,80 +535,122 @@ impl Sight {
         !binder.declares && self.is_own_split(binder.path, binder.item)
     }
 
-    /// Where along these binders sight changes for a place, with nothing kept of them.
-    fn changes_among(
-        &self,
-        alloc: Global,
-        group: &[Binder<PathId, NameId>],
-        from: Place,
-    ) -> Result<Vec<usize>, AllocError>
-        ensures { IfOk result (λ v. v.items ≡ changes_from (sight_view self.now).alive from false 0 (places_of group.now)) }
-    {
-        let mut places = Vec::new(alloc);
-        add_places(&mut places, group)?;
-        let sights = Sights::of(alloc, &self.alive, places)?;
-        sights.changes(alloc, &self.alive, from)
-    }
-
-    /// Where along the binders of a name with several targets sight changes for a place.
-    fn changes(&self, alloc: Global, name: NameId, from: Place) -> Result<Vec<usize>, AllocError>
-        requires { split.is_split ids (sight_view self.now).binders name ≡ true }
-        ensures { IfOk result (λ v. v.items ≡ changes_in (sight_view self.now) name from) }
-    {
-        match self.sights_at(name) {
-            Some(sights) => sights.changes(alloc, &self.alive, from),
-            None => self.changes_among(alloc, self.group(name), from),
-        }
-    }
-
-    /// The same for a binder along those of its target, if that counts.
-    fn changes_if(
+    /// Which binders of its target a binder sees, if that counts.
+    fn sight_if(
         &self,
         alloc: Global,
         counts: bool,
         binder: &Binder<PathId, NameId>,
-    ) -> Result<Option<Vec<usize>>, AllocError>
-        requires { split.is_split ids (sight_view self.now).binders binder.now.item ≡ true }
-        ensures { IfOk result (λ o. option_map (λ v. v.items) o ≡ (if counts then Some (changes_in (sight_view self.now) binder.now.item binder.now.stands) else None)) }
+    ) -> Result<Vec<bool>, AllocError>
+        ensures { IfOk result (λ v. v.items ≡ (if counts then split.sight ids (sight_view self.now) binder.now.item binder.now.stands else [])) }
     {
+        let mut sight = Vec::new(alloc);
         if counts {
-            let changes = self.changes(alloc, binder.item, binder.stands)?;
-            Ok(Some(changes))
-        } else {
-            Ok(None)
+            self.add_sight(&mut sight, binder.item, binder.stands)?;
         }
+        Ok(sight)
     }
 
-    /// What a binder finds whose target has several targets in this module, by what the binders of that lead to that it sees.
+    /// What a binder finds, by what the binders of its target lead to that it sees.
     fn found_of(
         &self,
         alloc: Global,
         binder: &Binder<PathId, NameId>,
         lead: &Start,
     ) -> Result<Finding, AllocError>
-        requires split { split.is_split ids (sight_view self.now).binders binder.now.item ≡ true }
-        requires lead { IsStart lead.now (split.seen ids (sight_view self.now) binder.now.item binder.now.stands) }
-        ensures { IfOk result (λ f. told_view f ≡ told_of (sight_view self.now) binder.now (split.seen ids (sight_view self.now) binder.now.item binder.now.stands)) }
+        requires { IsStart lead.now (split.seen ids (sight_view self.now) binder.now.item binder.now.stands) }
+        ensures { IfOk result (λ f. finding_view f ≡ split.found_of ids (sight_view self.now) binder.now (split.seen ids (sight_view self.now) binder.now.item binder.now.stands)) }
     {
         match lead {
             Start::Nothing => Ok(Finding::Nothing),
             Start::Several => Ok(Finding::Several),
             Start::One(first) => {
-                let changes = self.changes_if(alloc, self.leads_on(first), binder)?;
-                Ok(Finding::One(first.path, first.item, changes))
+                let sight = self.sight_if(alloc, self.leads_on(first), binder)?;
+                Ok(Finding::One(first.path, first.item, sight))
             }
         }
     }
 
     /// How a binder finds what it aims at.
     fn finding(&self, alloc: Global, binder: &Binder<PathId, NameId>) -> Result<Finding, AllocError>
-        ensures { IfOk result (λ f. told_view f ≡ told (sight_view self.now) binder.now) }
+        ensures { IfOk result (λ f. finding_view f ≡ split.finding ids (sight_view self.now) binder.now) }
     {
         if !self.is_own_split(binder.path, binder.item) {
-            return Ok(Finding::One(binder.path, binder.item, None));
+            return Ok(Finding::One(binder.path, binder.item, Vec::new(alloc)));
         }
         let lead = self.lead(binder.item, binder.stands, false);
         self.found_of(alloc, binder, &lead)
+    }
+
+    /// Adds how each of these binders finds what it aims at.
+    fn add_findings(
+        &self,
+        alloc: Global,
+        found: &mut Vec<Finding>,
+        group: &[Binder<PathId, NameId>],
+    ) -> Result<(), AllocError>
+        requires { found.old.items ≡ [] }
+        ensures { OnOk result (map finding_view found.new.items ≡ map (split.finding ids (sight_view self.now)) group.now) }
+    {
+        for binder in group {
+            let finding = self.finding(alloc, binder)?;
+            found.push(finding)?;
+        }
+        Ok(())
+    }
+
+    /// Where the first import stands that asks for a binder of its name which finds what it aims at so: itself at the latest.
+    fn asker_stands(
+        &self,
+        group: &[Binder<PathId, NameId>],
+        findings: &[Finding],
+        binder: &Binder<PathId, NameId>,
+        finding: &Finding,
+    ) -> Place
+        requires group { group.now ≡ split.of_name ids binder.now.bound (sight_view self.now).binders }
+        requires findings { map finding_view findings.now ≡ map (split.finding ids (sight_view self.now)) group.now }
+        requires finding { finding_view finding.now ≡ split.finding ids (sight_view self.now) binder.now }
+        ensures { result ≡ (split.asker_of ids (sight_view self.now) binder.now).stands }
+    {
+        for i in 0..group.len() {
+            if asks_for(binder, finding, &group[i], &findings[i]) {
+                return group[i].stands;
+            }
+        }
+        binder.stands
+    }
+
+    /// Where a binder asks from that finds what it aims at so, among the binders of its name and what they find.
+    fn from_of(
+        &self,
+        group: &[Binder<PathId, NameId>],
+        findings: &[Finding],
+        binder: &Binder<PathId, NameId>,
+        finding: &Finding,
+    ) -> Place
+        requires group { group.now ≡ split.of_name ids binder.now.bound (sight_view self.now).binders }
+        requires findings { map finding_view findings.now ≡ map (split.finding ids (sight_view self.now)) group.now }
+        requires finding { finding_view finding.now ≡ split.finding ids (sight_view self.now) binder.now }
+        ensures { result ≡ split.from_of ids (sight_view self.now) binder.now }
+    {
+        if self.is_own_split(binder.path, binder.item) {
+            self.asker_stands(group, findings, binder, finding)
+        } else {
+            Place::Always
+        }
+    }
+
+    /// How each of these binders finds what it aims at.
+    fn findings(
+        &self,
+        alloc: Global,
+        group: &[Binder<PathId, NameId>],
+    ) -> Result<Vec<Finding>, AllocError>
+        ensures { IfOk result (λ v. map finding_view v.items ≡ map (split.finding ids (sight_view self.now)) group.now) }
+    {
+        let mut found = Vec::new(alloc);
+        self.add_findings(alloc, &mut found, group)?;
+        Ok(found)
     }
 
     /// Adds what a name without a path asks for where each name has one target: its module's own declaration, else what the
@@ -649,120 +697,78 @@ impl Sight {
 
     // ---- what the binders of the module aim at
 
-    /// What a binder aims at whose target has several targets in this module, by the imports of its name that were noted
-    /// before it; and it is noted.
-    fn aim_noted(
+    /// What a binder aims at, among the binders of its name and what these find.
+    fn aim(
         &self,
-        alloc: Global,
-        askers: &mut HashMap<Question, Place>,
+        group: &[Binder<PathId, NameId>],
+        findings: &[Finding],
         binder: &Binder<PathId, NameId>,
-    ) -> Result<Aim, AllocError>
-        requires { split.is_own_split ids (sight_view self.now) binder.now.path binder.now.item ≡ true }
-        ensures aim { IfOk result (λ a. IsAimAfter (sight_view self.now) askers.old binder.now a) }
-        ensures noted { OnOk result (AreNoted (sight_view self.now) askers.old binder.now askers.new) }
+        finding: &Finding,
+    ) -> Aim
+        requires group { group.now ≡ split.of_name ids binder.now.bound (sight_view self.now).binders }
+        requires findings { map finding_view findings.now ≡ map (split.finding ids (sight_view self.now)) group.now }
+        requires finding { finding_view finding.now ≡ split.finding ids (sight_view self.now) binder.now }
+        ensures { result ≡ aim_in (sight_view self.now) binder.now }
     {
-        law_of_sights();
-        let finding = self.finding(alloc, binder)?;
-        let order = finding.order();
-        let question = Question {
-            path: binder.path,
-            item: binder.item,
-            finding,
-        };
-        let from = first_asker(askers, question, binder.stands)?;
-        Ok(Aim {
+        Aim {
             reference: Reference {
                 path: binder.path,
                 name: binder.item,
-                from,
+                from: self.from_of(group, findings, binder, finding),
             },
-            order,
-        })
-    }
-
-    /// Adds what a binder aims at, if it is an import whose target has several targets in this module, by the imports of its
-    /// name that were noted before it; and it is noted.
-    fn add_aim(
-        &self,
-        alloc: Global,
-        askers: &mut HashMap<Question, Place>,
-        aims: &mut HashMap<Binder<PathId, NameId>, Aim>,
-        binder: &Binder<PathId, NameId>,
-    ) -> Result<(), AllocError>
-        ensures aims { OnOk result (AddsAim (sight_view self.now) askers.old binder.now aims.old.entries aims.new.entries) }
-        ensures noted { OnOk result (AreNotedIf (sight_view self.now) askers.old binder.now askers.new) }
-    {
-        if self.leads_on(binder) {
-            let aim = self.aim_noted(alloc, askers, binder)?;
-            keyed::put(aims, *binder, aim)?;
+            order: finding.order(),
         }
-        Ok(())
     }
 
-    /// Adds what these binders of a name aim at, those imports whose target has several targets in this module, and notes them.
-    fn add_aims(
-        &self,
-        alloc: Global,
-        askers: &mut HashMap<Question, Place>,
-        aims: &mut HashMap<Binder<PathId, NameId>, Aim>,
-        group: &[Binder<PathId, NameId>],
-    ) -> Result<(), AllocError>
-        requires group { IsGroup (sight_view self.now) group.now }
-        requires none { askers.old.entries ≡ [] }
-        requires aims { AreAims (sight_view self.now) aims.old.entries }
-        ensures aims { OnOk result (AreAims (sight_view self.now) aims.new.entries) }
-        ensures noted { OnOk result (AreAskers (sight_view self.now) group.now askers.new) }
-    {
-        for binder in group {
-            self.add_aim(alloc, askers, aims, binder)?;
-        }
-        Ok(())
-    }
-
-    /// What a binder aims at whose target has several targets in this module, and which may be none of the module's.
+    /// What a binder aims at, which may be none of the module's.
     pub(crate) fn aim_of(
         &self,
         alloc: Global,
         binder: &Binder<PathId, NameId>,
     ) -> Result<Aim, AllocError>
-        requires { split.is_own_split ids (sight_view self.now) binder.now.path binder.now.item ≡ true }
         ensures { IfOk result (λ a. a ≡ aim_in (sight_view self.now) binder.now) }
     {
-        let mut askers = HashMap::new(alloc);
-        let mut aims = HashMap::new(alloc);
-        self.add_aims(alloc, &mut askers, &mut aims, self.group(binder.bound))?;
-        self.aim_noted(alloc, &mut askers, binder)
+        let group = self.group(binder.bound);
+        let findings = self.findings(alloc, group)?;
+        let finding = self.finding(alloc, binder)?;
+        Ok(self.aim(group, &findings, binder, &finding))
     }
 
-    /// Adds what these binders of a name aim at, those imports whose target has several targets in this module.
-    fn add_group_aims(
+    /// Adds what each of the binders of a name aims at.
+    fn add_aims(
         &self,
         alloc: Global,
-        aims: &mut HashMap<Binder<PathId, NameId>, Aim>,
+        aims: &mut Vec<Aim>,
         group: &[Binder<PathId, NameId>],
     ) -> Result<(), AllocError>
         requires group { IsGroup (sight_view self.now) group.now }
-        requires aims { AreAims (sight_view self.now) aims.old.entries }
-        ensures { OnOk result (AreAims (sight_view self.now) aims.new.entries) }
+        requires empty { aims.old.items ≡ [] }
+        ensures { OnOk result (aims.new.items ≡ map (aim_in (sight_view self.now)) group.now) }
     {
-        let mut askers = HashMap::new(alloc);
-        self.add_aims(alloc, &mut askers, aims, group)
+        let findings = self.findings(alloc, group)?;
+        for i in 0..group.len() {
+            let aim = self.aim(group, &findings, &group[i], &findings[i]);
+            aims.push(aim)?;
+        }
+        Ok(())
     }
 
-    /// Adds what the imports of the module aim at whose target has several targets in it.
+    /// Adds of each bound name what its binders aim at, where some name of the module has several targets.
     pub(crate) fn add_all_aims(
         &self,
         alloc: Global,
-        aims: &mut HashMap<Binder<PathId, NameId>, Aim>,
+        all: &mut Vec<Vec<Aim>>,
     ) -> Result<(), AllocError>
-        requires { AreAims (sight_view self.now) aims.old.entries }
-        ensures { OnOk result (AreAims (sight_view self.now) aims.new.entries) }
+        requires { all.old.items ≡ [] }
+        ensures { OnOk result (AreAims self.now all.new.items) }
     {
         if !self.is_any_split {
             return Ok(());
         }
         for group in &self.groups {
-            self.add_group_aims(alloc, aims, group)?;
+            let mut aims = Vec::with_capacity(alloc, group.len())?;
+            self.add_aims(alloc, &mut aims, group)?;
+            all.push(aims)?;
         }
         Ok(())
     }

@@ -9,15 +9,13 @@ ghost use Rattle.wesl_tree_base.specs.declared.ids.NameId.{NameId};
 
 use crate::binders::{
     Aim, Answered, Binder, Start, add_answer, add_asked, aim_elsewhere, are_unlike, binder_of,
-    first_of, has_declaration, has_two_targets, keep_aim, placed,
+    first_of, has_declaration, has_two_targets, is_same_binder, keep_aim, placed,
 };
 use crate::sight::Sight;
 use std::alloc::{AllocError, Global};
-use std::collections::HashMap;
 use wesl_cond_choices::alive::Alive;
 use wesl_cond_choices::place::Place;
 use wesl_link_symbols::ids::{NameId, PathId};
-use wesl_link_symbols::keyed;
 use wesl_link_symbols::symbols::{Import, Reference};
 use wesl_link_targets::targets::Sought;
 
@@ -50,11 +48,11 @@ fn add_reference(
 #[derive(Drop)]
 pub struct Scope {
     pub(crate) sight: Sight,
-    // What the imports of the module aim at whose target has several targets in it.
-    aims: HashMap<Binder<PathId, NameId>, Aim>,
+    // Of each bound name what its binders aim at, where some name of the module has several targets.
+    aims: Vec<Vec<Aim>>,
     // Of each bound name what it asks for, which counts where it has one target and some other name has several.
     answers: Vec<Answered>,
-    pub ghost aims_are: { AreAims (sight_view sight) aims.entries },
+    pub ghost aims_are: { AreAims sight aims.items },
     pub ghost answers_are: { AreAnswers sight answers.items },
 }
 
@@ -67,7 +65,7 @@ impl Scope {
         ensures { IfOk result (λ s. scope_view s ≡ record { own = (sight_view sight).own; binders = (sight_view sight).binders; alive = alive }) }
     {
         let sight = sight.with_alive(alloc, alive)?;
-        let mut aims = HashMap::new(alloc);
+        let mut aims = Vec::new(alloc);
         sight.add_all_aims(alloc, &mut aims)?;
         let answers = Vec::new(alloc);
         let scope = Scope {
@@ -139,53 +137,36 @@ impl Scope {
 
     // ---- what the binders of a name aim at
 
-    /// What a binder aims at, where that is kept.
-    fn held_aim(&self, binder: &Binder<PathId, NameId>) -> Option<Aim>
-        ensures { IfSome result (λ a. a ≡ aim_in (scope_view self.now) binder.now) }
+    /// What each of the binders of a name aims at.
+    fn aims(&self, name: NameId) -> &[Aim]
+        requires { split.has_split ids (scope_view self.now).binders ≡ true }
+        ensures { result.now ≡ map (aim_in (scope_view self.now)) (split.of_name ids name (scope_view self.now).binders) }
     {
-        keyed::value_at(&self.aims, *binder)
-    }
-
-    /// What a binder aims at whose target has several targets in this module.
-    fn own_aim(&self, alloc: Global, binder: &Binder<PathId, NameId>) -> Result<Aim, AllocError>
-        requires { split.is_own_split ids (scope_view self.now) binder.now.path binder.now.item ≡ true }
-        ensures { IfOk result (λ a. a ≡ aim_in (scope_view self.now) binder.now) }
-    {
-        match self.held_aim(binder) {
-            Some(aim) => Ok(aim),
-            None => self.sight.aim_of(alloc, binder),
+        match self.sight.names.get_index_of(&name) {
+            Some(index) => &self.aims[index],
+            None => &[],
         }
-    }
-
-    /// What a binder aims at.
-    fn aim(&self, alloc: Global, binder: &Binder<PathId, NameId>) -> Result<Aim, AllocError>
-        ensures { IfOk result (λ a. a ≡ aim_in (scope_view self.now) binder.now) }
-    {
-        if self.sight.is_own_split(binder.path, binder.item) {
-            return self.own_aim(alloc, binder);
-        }
-        Ok(aim_elsewhere(binder))
     }
 
     /// Adds what the binders of a name aim at that are seen from a place.
     fn add_seen_aims(
         &self,
-        alloc: Global,
         found: &mut Vec<Aim>,
         name: NameId,
         from: Place,
     ) -> Result<(), AllocError>
-        requires { found.old.items ≡ [] }
+        requires split { split.has_split ids (scope_view self.now).binders ≡ true }
+        requires empty { found.old.items ≡ [] }
         ensures { OnOk result (found.new.items ≡ map (aim_in (scope_view self.now)) (split.seen ids (scope_view self.now) name from)) }
     {
         let group = self.sight.group(name);
+        let aims = self.aims(name);
         let is_split = self.sight.is_split(name);
         let unions = self.sight.unions(name, is_split);
         let mut i = self.sight.next(unions, from, 0);
         'binders: while i < group.len() {
             let is_seen = self.sight.sees(from, placed(is_split, group[i].stands));
-            let aim = self.aim(alloc, &group[i])?;
-            keep_aim(found, &aim, is_seen)?;
+            keep_aim(found, &aims[i], is_seen)?;
             i = self.sight.next(unions, from, i + 1);
         }
         Ok(())
@@ -214,7 +195,7 @@ impl Scope {
             return Ok(());
         }
         let mut aims = Vec::new(alloc);
-        self.add_seen_aims(alloc, &mut aims, name, here)?;
+        self.add_seen_aims(&mut aims, name, here)?;
         add_asked(found, &aims)
     }
 
@@ -413,6 +394,43 @@ impl Scope {
     }
 
     // ---- the imports of the module's table
+
+    /// What a binder aims at, where it is one of the module's.
+    fn held_aim(&self, binder: &Binder<PathId, NameId>) -> Option<Aim>
+        ensures { IfSome result (λ a. a ≡ aim_in (scope_view self.now) binder.now) }
+    {
+        if !self.sight.has_split() {
+            return None;
+        }
+        let group = self.sight.group(binder.bound);
+        let aims = self.aims(binder.bound);
+        for i in 0..group.len() {
+            if is_same_binder(binder, &group[i]) {
+                return Some(aims[i]);
+            }
+        }
+        None
+    }
+
+    /// What a binder aims at whose target has several targets in this module.
+    fn own_aim(&self, alloc: Global, binder: &Binder<PathId, NameId>) -> Result<Aim, AllocError>
+        ensures { IfOk result (λ a. a ≡ aim_in (scope_view self.now) binder.now) }
+    {
+        match self.held_aim(binder) {
+            Some(aim) => Ok(aim),
+            None => self.sight.aim_of(alloc, binder),
+        }
+    }
+
+    /// What a binder aims at.
+    fn aim(&self, alloc: Global, binder: &Binder<PathId, NameId>) -> Result<Aim, AllocError>
+        ensures { IfOk result (λ a. a ≡ aim_in (scope_view self.now) binder.now) }
+    {
+        if self.sight.is_own_split(binder.path, binder.item) {
+            return self.own_aim(alloc, binder);
+        }
+        Ok(aim_elsewhere(binder))
+    }
 
     /// An import of the module with where it stands, where it asks from and what it finds there. Refused for want of memory
     /// alone.

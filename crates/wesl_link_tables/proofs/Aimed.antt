@@ -1,7 +1,7 @@
 -- What paths aim at, by numbers.
-use Rattle.std.proofs.Common.{◌≡◌, Some, None, All, List, [], ◌∷◌, map, arith, refl, sym, subst, ap, ap₂, ◌∙◌}
+use Rattle.std.proofs.Common.{◌≡◌, Some, None, All, List, [], ◌∷◌, map, take, arith, refl, sym, subst, ap, ap₂, ◌∙◌}
 use Rattle.std.specs.Prelude.{slice_get}
-use Rattle.wesl_tree_names.specs.Path.{Text, Path, extend, join, push}
+use Rattle.wesl_tree_names.specs.Path.{Text, Path, extend, join, push, root_path}
 use Rattle.wesl_link_symbols.specs.declared.ids.PathId.{PathId}
 use Rattle.wesl_tree_base.specs.declared.ids.NameId.{NameId}
 use Rattle.wesl_link_split.specs.declared.binders.Binder.{Binder}

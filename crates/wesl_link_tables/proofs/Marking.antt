@@ -1,5 +1,5 @@
 -- The marks of references, by what names stand for in a module that is read.
-use Rattle.std.proofs.Common.{◌≡◌, ℕ, Bool, true, false, List, [], ◌∷◌, ◌++◌, map, length, take, drop, arith, refl, sym, subst, ap, ◌∙◌}
+use Rattle.std.proofs.Common.{◌≡◌, ℕ, Bool, true, false, List, [], ◌∷◌, ◌++◌, map, length, take, drop, ◌<◌, arith, refl, sym, subst, ap, ◌∙◌}
 use Rattle.wesl_tree_names.specs.Path.{Text, Origin, from_package, absolute, relative, Path, path_view}
 use Rattle.wesl_tree_names.specs.declared.path.ModulePath.{ModulePath}
 use Rattle.wesl_cond_choices.specs.declared.place.Place.{Place}

@@ -1,5 +1,6 @@
 -- What has numbers keeps them as names and paths are added.
-use Rattle.std.proofs.Common.{◌≡◌, Option, Some, None, List, [], ◌∷◌, ◌++◌, ap}
+use Rattle.std.proofs.Common.{◌≡◌, ℕ, Option, Some, None, List, [], ◌∷◌, ◌++◌, map, take, length, get_or, ap, ◌∙◌, ◌<◌, ◌+◌}
+use Rattle.std.proofs.lemmas.List.{map-append}
 use Rattle.wesl_tree_names.specs.Path.{Text, Path}
 use Rattle.wesl_cond_choices.specs.Places.{together}
 use Rattle.wesl_link_symbols.specs.declared.ids.PathId.{PathId}
@@ -11,7 +12,7 @@ use Rattle.wesl_link_split.specs.Split.{Scope}
 use Rattle.wesl_link_split.specs.declared.binders.Binder.{Binder}
 use Rattle.wesl_link_tables.specs.Numbering.{AreRelated, IsRelatedOption, SameImport, SameReference, SameBinder, SameScope, SameDeclaration, SameTable, Numbering, Grows, NameAt, PathAt, AreNumberedDeclarations}
 pub use Rattle.wesl_link_paths.proofs.Ways.{map_next}
-use Rattle.wesl_link_tables.proofs.Lists.{longer_itself, longer_trans, get_in, related_more, related_append}
+use Rattle.wesl_link_tables.proofs.Lists.{longer_itself, longer_trans, get_in, related_more, related_append, take_next}
 
 pub grows_itself : (a : Numbering) → Grows a a
 grows_itself a = record { names = longer_itself a.names; paths = longer_itself a.paths }

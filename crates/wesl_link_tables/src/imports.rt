@@ -4,7 +4,7 @@ ghost use Rattle.wesl_tree_names.specs.Path.{path_view};
 ghost use Rattle.wesl_tree_syntax.specs.Tree.{before, end, forest_of};
 ghost use Rattle.wesl_tree_syntax.specs.View.{attribute_view, attributes_tree, content_view, entry_view, item_view, imports_tree};
 ghost use Rattle.wesl_link_tables.specs.Imports as imports;
-ghost use Rattle.wesl_link_tables.specs.Base.{base_view, IsKnownBase, IsLast};
+ghost use Rattle.wesl_link_tables.specs.Base.{base_view, IsKnownBase};
 ghost use Rattle.wesl_link_tables.specs.Numbering.{IsLonger, path_in};
 ghost use Rattle.wesl_link_tables.specs.NumbersView.{paths_of};
 ghost use Rattle.wesl_link_tables.specs.Walks.{AreKnown, HasImported, HasItem, KeepsKnown, imports_of, statement_imports};
@@ -14,7 +14,7 @@ use wesl_cond_choices::place::Place;
 use wesl_link_paths::PathNumbers;
 use wesl_link_symbols::ids::PathId;
 use wesl_link_symbols::symbols::Import;
-use wesl_tree_names::{Ident, ModulePath, law_of_equality};
+use wesl_tree_names::{Ident, ModulePath};
 use wesl_tree_syntax::{
     Attribute, Attributes, Import as ImportEntry, ImportContent, ImportItem, ImportStatement,
     ImportStatementNode,
@@ -85,34 +85,6 @@ fn base_of(
     }
 }
 
-/// The path of the statement before, and where it leads.
-#[derive(Clone, Copy)]
-struct Last<'a> {
-    path: Option<&'a ModulePath>,
-    base: Base,
-}
-
-/// Where a statement with this path leads, behind another: a path that stands in a row is looked up once.
-fn base_after(
-    alloc: Global,
-    paths: &mut PathNumbers,
-    own: PathId,
-    last: Last<'_>,
-    path: &Option<ModulePath>,
-) -> Result<Base, AllocError>
-    requires own { own.0 < length (paths_of paths.old) }
-    requires last { IsLast (paths_of paths.old) own last }
-    ensures base { IfOk result (λ b. base_view (paths_of paths.new) b ≡ imports.base_of (path_in (paths_of paths.old) own) (option_map path_view path.now)) }
-    ensures known { IfOk result (IsKnownBase (paths_of paths.new)) }
-    ensures grows { IsLonger (paths_of paths.old) (paths_of paths.new) }
-{
-    law_of_equality();
-    match (last.path, path) {
-        (Some(before), Some(after)) if *before == *after => Ok(last.base),
-        _ => base_of(alloc, paths, own, path),
-    }
-}
-
 /// The imports with a target of the module with the number `own`, in the order of the source, each with where its statement
 /// stands and with the number of its target's path. Refused for want of memory alone.
 pub fn imports(
@@ -127,51 +99,44 @@ pub fn imports(
     ensures grows { IsLonger (paths_of paths.old) (paths_of paths.new) }
 {
     let mut found = Vec::with_capacity(alloc, statements.len())?;
-    let mut last = Last {
-        path: None,
-        base: Base::Unset,
-    };
     for i in 0..statements.len() {
-        let statement = &statements[i].node;
-        last = add_statement(
+        add_statement(
             alloc,
             paths,
             own,
             &mut found,
             Place::Import(i),
-            last,
-            statement,
+            &statements[i].node,
         )?;
     }
     Ok(found)
 }
 
-/// Adds the imports of a statement behind another, and hands on where it leads.
-fn add_statement<'a>(
+fn add_statement(
     alloc: Global,
     paths: &mut PathNumbers,
     own: PathId,
     found: &mut Vec<Import<PathId, Ident>>,
     stands: Place,
-    last: Last<'a>,
-    statement: &'a ImportStatement,
-) -> Result<Last<'a>, AllocError>
+    statement: &ImportStatement,
+) -> Result<(), AllocError>
     requires own { own.0 < length (paths_of paths.old) }
     requires known { AreKnown (paths_of paths.old) found.old }
-    requires last { IsLast (paths_of paths.old) own last }
     ensures imports { OnOk result (imports_of (paths_of paths.new) found.new ≡ imports_of (paths_of paths.old) found.old ++ statement_imports (path_in (paths_of paths.old) own) stands statement.now) }
     ensures known { OnOk result (AreKnown (paths_of paths.new) found.new) }
-    ensures last { IfOk result (IsLast (paths_of paths.new) own) }
     ensures grows { IsLonger (paths_of paths.old) (paths_of paths.new) }
 {
-    let base = base_after(alloc, paths, own, last, &statement.path)?;
+    let base = base_of(alloc, paths, own, &statement.path)?;
     let published = is_published(&statement.attributes);
-    let content = &statement.content;
-    add_content(alloc, paths, found, stands, published, base, content)?;
-    Ok(Last {
-        path: statement.path.as_ref(),
+    add_content(
+        alloc,
+        paths,
+        found,
+        stands,
+        published,
         base,
-    })
+        &statement.content,
+    )
 }
 
 #[cycle(imports)]
@@ -237,8 +202,15 @@ fn add_entry(
     ensures grows { IsLonger (paths_of paths.old) (paths_of paths.new) }
 {
     let inner = entered(alloc, paths, base, &entry.path)?;
-    let content = &entry.content;
-    add_content(alloc, paths, found, stands, published, inner, content)
+    add_content(
+        alloc,
+        paths,
+        found,
+        stands,
+        published,
+        inner,
+        &entry.content,
+    )
 }
 
 /// Adds an item, whatever paths the numbers stand for.

@@ -59,7 +59,6 @@ fn of_scopes(row: Row<'_>, call: &str) -> Value {
         "undefined_uses" => validators::undefined_told(row),
         "repeated_names" => validators::repeated_told(row),
         "ring_members" => validators::members_told(row),
-        "misfit_calls" => validators::misfits_told(row),
         "faults_wesl" | "faults_wgsl" => validators::all_told(row, call),
         "validate_wesl" | "validate_wgsl" => validators::told(row, call),
         _ => row.text_value("no such row"),

@@ -6,8 +6,8 @@ use wesl_tree::TranslationUnit;
 use wesl_validate::{validate_wesl, validate_wgsl};
 use wesl_validate_builtins::Builtins;
 use wesl_validate_faults::{
-    MisfitCall, RepeatedName, RingMember, UndefinedUse, faults_wesl, faults_wgsl, misfit_calls,
-    repeated_names, ring_members, undefined_uses,
+    RepeatedName, RingMember, UndefinedUse, faults_wesl, faults_wgsl, repeated_names, ring_members,
+    undefined_uses,
 };
 
 /// The module of the `tree`, numbered by what its identifiers mean, or, where the row says `as_read`, by their spellings.
@@ -125,35 +125,6 @@ pub fn members_told(row: Row<'_>) -> Value {
     let mut answer = List::new(row.alloc);
     for told in members.as_slice() {
         answer.put(member_value(row, told));
-    }
-    answer.end(row)
-}
-
-/// A call that fits nothing.
-fn misfit_value(row: Row<'_>, told: &MisfitCall<'_>) -> Value {
-    let mut answer = Object::new(row.alloc);
-    if let Some(name) = told.declaration {
-        answer.text("declaration", name);
-    }
-    if let Some((expected, got)) = told.counts {
-        answer.number("expected", expected);
-        answer.number("got", got);
-    }
-    answer.text("name", told.name);
-    answer.number("place", told.place);
-    answer.end(row)
-}
-
-/// The calls of the module that fit nothing.
-pub fn misfits_told(row: Row<'_>) -> Value {
-    let unit = numbered(row);
-    let calls = row.or(
-        misfit_calls(row.alloc, &unit, &builtins(row)),
-        Vec::new(row.alloc),
-    );
-    let mut answer = List::new(row.alloc);
-    for told in calls.as_slice() {
-        answer.put(misfit_value(row, told));
     }
     answer.end(row)
 }

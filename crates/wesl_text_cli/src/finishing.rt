@@ -65,20 +65,20 @@ fn outcome_of_text(
     bundle: Option<String>,
     explanation: Option<String>,
 ) -> Result<Outcome, AllocError> {
-    let LinkedText {
-        text,
-        warnings: clashes,
-        map,
-    } = linked;
-    let is_as_meant = clashes.is_empty();
     let mut warnings = told;
-    add_warnings(alloc, &mut warnings, modules, clashes)?;
+    add_warnings(alloc, &mut warnings, modules, &linked)?;
     let files = modules.files(alloc)?;
     let rule = rule_of(alloc, asked.matches, &files, asked.description)?;
+    let LinkedText {
+        text,
+        clash,
+        notes: _,
+        map,
+    } = linked;
     Ok(Outcome {
         text: Some(explanation.unwrap_or(text)),
         warnings,
-        is_as_meant,
+        is_as_meant: !clash,
         rule: Some(rule),
         map,
         bundle,
@@ -143,13 +143,19 @@ fn add_warnings(
     alloc: Global,
     told: &mut Vec<String>,
     modules: ReadModules<'_>,
-    clashes: String,
+    linked: &LinkedText,
 ) -> Result<(), AllocError> {
     for flag in modules.unknown_flags(alloc)? {
         told.push(format!(in alloc; "warning: no module that is loaded has the flag `{flag}`")?)?;
     }
-    if !clashes.is_empty() {
-        told.push(clashes)?;
+    if linked.clash {
+        told.push(String::from_str(
+            alloc,
+            "warning: the printed names clash: the text does not mean what the modules do; take another --mangler, or rename",
+        )?)?;
+    }
+    if !linked.notes.is_empty() {
+        told.push(String::from_str(alloc, linked.notes.as_str())?)?;
     }
     Ok(())
 }

@@ -17,7 +17,7 @@ const ABOUT: &str = "Links the WESL files below a folder and prints the linked u
 The modules are the files *.wesl and *.wgsl below PROJECT: a/b.wesl is `package::a::b`, and package.wesl or lib.wesl, directly in it, is `package`. Where PROJECT is a file, its folder is taken, and the file is the root. The root is `package::main` unless --root says otherwise, and its entry points are kept unless --keep does. A file wesl.toml or project.json in the folder may say the root, what is kept, packages and sets of flags; the options here come before it. Each module is read when it is asked for. Each declaration is printed below a comment with its module, item, file and line.";
 
 const STATUS: &str =
-    "status: 0 linked; 1 a fault, on standard error as FILE:LINE:COLUMN: error: TEXT; 2 wrong use; 3 printed, but the names clash or capture words of `var<..>`, so that the text is not what the modules mean.";
+    "status: 0 linked; 1 a fault, on standard error as FILE:LINE:COLUMN: error: TEXT; 2 wrong use; 3 printed, but the names clash, so that the text is not what the modules mean.";
 
 /// The command line of the program.
 pub fn command<'a>(alloc: Global) -> Result<Command<'a>, AllocError> {

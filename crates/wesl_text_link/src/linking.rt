@@ -53,13 +53,15 @@ pub struct LinkWish<'w> {
     pub map: Option<MapWish<'w>>,
 }
 
-/// The text of a linked unit, and what makes it another text than its modules mean.
+/// The text of a linked unit, and whether its names would be read otherwise than meant.
 #[derive(Drop)]
 pub struct LinkedText {
     /// The text.
     pub text: String,
-    /// The lines that warn where its names clash or capture words; empty where it is what its modules mean.
-    pub warnings: String,
+    /// Whether its names clash.
+    pub clash: bool,
+    /// The lines that tell which names clash.
+    pub notes: String,
     /// Its source map, if one was asked for.
     pub map: Option<String>,
 }
@@ -200,7 +202,7 @@ fn lent<'n>(alloc: Global, names: &'n [String]) -> Result<Vec<&'n str>, AllocErr
     Ok(texts)
 }
 
-// The text of a linked unit as it is wished, with the warnings of its clashes.
+// The text of a linked unit as it is wished, with the notes of its clashes.
 fn told_text<R>(
     alloc: Global,
     modules: &ProjectModules<'_, R>,
@@ -209,7 +211,11 @@ fn told_text<R>(
 ) -> Result<LinkedText, ProjectFault> {
     let wesl_text_linked::LinkedText { text, linked } = found;
     let LinkedUnit { unit, map, clash } = linked;
-    let warnings = modules.clash_lines(alloc, &map, wish.root, &unit, clash)?;
+    let notes = if clash {
+        modules.clash_lines(alloc, &map, wish.root, &unit)?
+    } else {
+        String::new(alloc)
+    };
     let text = if wish.has_comments {
         modules.with_comments(alloc, text, &map, wish.root, &unit)?
     } else {
@@ -228,7 +234,8 @@ fn told_text<R>(
     };
     Ok(LinkedText {
         text,
-        warnings,
+        clash,
+        notes,
         map: source_map,
     })
 }

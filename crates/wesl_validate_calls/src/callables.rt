@@ -8,9 +8,9 @@ use wesl_validate_builtins::Builtins;
 
 /// What is built in, and of that the names that a call may name, as a set: each call costs one look-up.
 #[derive(Drop)]
-pub struct Callables<'b> {
+pub(crate) struct Callables<'b> {
     /// what is built in
-    pub builtins: &'b Builtins,
+    pub(crate) builtins: &'b Builtins,
     /// its functions and constructors
     names: HashSet<&'b str>,
     pub ghost kept: { AreKept ((builtins_view builtins.now).functions ++ (builtins_view builtins.now).constructors) names },
@@ -18,7 +18,7 @@ pub struct Callables<'b> {
 
 impl<'b> Callables<'b> {
     /// Those of what is built in. Refused for want of memory alone.
-    pub fn new(alloc: Global, builtins: &'b Builtins) -> Result<Callables<'b>, AllocError>
+    pub(crate) fn new(alloc: Global, builtins: &'b Builtins) -> Result<Callables<'b>, AllocError>
         ensures { IfOk result (λ c. c.builtins.now ≡ builtins.now) }
     {
         let names = builtins.callable_names(alloc)?;

@@ -16,11 +16,11 @@ use wesl_visit::Collect;
 
 /// A call of a name without a path.
 #[derive(Clone, Copy)]
-pub struct Call {
+pub(crate) struct Call {
     /// the number of the name
-    pub callee: usize,
+    pub(crate) callee: usize,
     /// how many arguments it has
-    pub arguments: usize,
+    pub(crate) arguments: usize,
 }
 
 /// The call, if it is one of a name without a path.
@@ -109,7 +109,7 @@ fn add_statements(calls: &mut Vec<Call>, nodes: &Vec<&StatementNode>) -> Result<
 }
 
 /// The calls without a path in a declaration: expressions, then statements. Refused for want of memory alone.
-pub fn calls_of(alloc: Global, declaration: &GlobalDeclaration) -> Result<Vec<Call>, Error>
+pub(crate) fn calls_of(alloc: Global, declaration: &GlobalDeclaration) -> Result<Vec<Call>, Error>
     ensures calls { IfOk result (λ calls. map call_told calls.items ≡ calls_in (before (global_view declaration.now) end)) }
     ensures refused { IfErr result (λ e. e ≡ error.Memory) }
 {

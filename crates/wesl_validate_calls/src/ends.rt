@@ -21,7 +21,7 @@ use wesl_tree_names::Names;
 
 /// Of each number where its aliases lead, and so what a call of it may be a call of.
 #[derive(Drop)]
-pub struct Ends {
+pub(crate) struct Ends {
     /// of each number the counts of arguments that functions and structures take to which its aliases lead
     pub(crate) taken: Vec<Vec<usize>>,
     /// of each number whether its aliases lead to what takes any count

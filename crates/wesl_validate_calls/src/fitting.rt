@@ -103,8 +103,11 @@ fn misfit_of(
 }
 
 /// The first call that fits nothing of what its aliases end in: the number of the declaration that holds it, and what
-/// is wrong with it. `found` are the identifiers of the unit. Refused for want of memory alone.
-pub(crate) fn first_misfit(
+/// is wrong with it. None where each call fits whose aliases end anywhere.
+///
+/// `found` are the identifiers of the unit. It goes over the calls once, and over the aliases once for each count of arguments
+/// that they lead to. Refused for want of memory alone.
+pub fn first_misfit(
     alloc: Global,
     unit: &TranslationUnit,
     found: &Identifiers<'_>,

@@ -176,7 +176,8 @@ fn not_callable(end: Option<usize>) -> Option<Misfit>
     }
 }
 
-/// Whether a call fits what its aliases lead to, and else what is wrong. Where they end nowhere, nothing is.
+/// Whether a call fits what its aliases lead to, and else what is wrong. Where they end nowhere, nothing is. It costs a
+/// look-up in each table of `ends`.
 pub(crate) fn judged(
     tables: &Tables,
     ends: &Ends,

@@ -17,11 +17,7 @@ mod takers;
 mod told;
 mod whole;
 
-pub use callables::Callables;
-pub use calls::{Call, calls_of};
-pub use ends::Ends;
 pub use fault::{Fault, wesl_fault};
 pub use misfit::Misfit;
 pub use misfit_fault::call_fault;
-pub use tables::{Tables, tables_of};
-pub use whole::{ends_in, misfits, verdict};
+pub use whole::misfits;

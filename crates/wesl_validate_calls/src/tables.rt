@@ -17,7 +17,7 @@ use wesl_tree::TranslationUnit;
 
 /// What a module's numbers are to calls.
 #[derive(Drop)]
-pub struct Tables {
+pub(crate) struct Tables {
     /// of each declaration what it is to a call
     pub(crate) shapes: Vec<Shape>,
     /// of each number the declarations that declare it
@@ -103,8 +103,8 @@ fn aliases_of(
     Ok(aliases)
 }
 
-/// What the numbers of a module are to calls, where `found` are its identifiers. Refused for want of memory alone.
-pub fn tables_of(
+/// The tables of a module, where `found` are its identifiers. Refused for want of memory alone.
+pub(crate) fn tables_of(
     alloc: Global,
     unit: &TranslationUnit,
     found: &Identifiers<'_>,

@@ -27,8 +27,8 @@ use wesl_tree_syntax::GlobalDeclaration;
 use wesl_validate_builtins::Builtins;
 
 /// What is told of a call, if it fits nothing of what its aliases end in: of several names where they end the first is
-/// told. It costs a look-up in each table.
-pub fn verdict(
+/// told.
+pub(crate) fn verdict(
     unit: &TranslationUnit,
     callables: &Callables<'_>,
     tables: &Tables,
@@ -42,8 +42,8 @@ pub fn verdict(
     judged(tables, ends, unit.names(), callables, call)
 }
 
-/// Where the aliases of each number of a module with these tables lead. Refused for want of memory alone.
-pub fn ends_in(
+/// Where the aliases of each number of a module lead. Refused for want of memory alone.
+pub(crate) fn ends_in(
     alloc: Global,
     unit: &TranslationUnit,
     callables: &Callables<'_>,

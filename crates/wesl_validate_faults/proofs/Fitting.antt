@@ -12,9 +12,9 @@ use Rattle.wesl_validate_builtins.specs.Builtins.{BuiltinNames}
 use Rattle.wesl_validate_rules.proofs.Finding.{from_mapped, to_mapped}
 use Rattle.wesl_validate_rules.specs.Calls.{CallOf, is_plain_alias, calls_in}
 use Rattle.wesl_validate_rules.specs.Faults.{name_of, Counts, IsMisfit}
-use Rattle.wesl_validate_rules.specs.Valid.{calls_of, AliasesTo, IsEnd, Fits, IsFitting, IsValidWgsl}
+use Rattle.wesl_validate_rules.specs.Valid.{calls_of, AliasesTo, IsEnd, Fits, IsValidWgsl}
 use Rattle.wesl_validate_calls.specs.Misfits.{Misses, Passes}
-use Rattle.wesl_validate_calls.specs.Verdicts.{first_count, IsVerdict, AreMisfits, AreMisfitsAmong, misfit_in, numbered, calls_below, all_calls}
+use Rattle.wesl_validate_calls.specs.Verdicts.{first_count, IsVerdict, AreMisfitsAmong, misfit_in, numbered, calls_below, all_calls}
 use Rattle.wesl_validate_calls.specs.declared.misfit.Misfit.{Misfit}
 use Rattle.wesl_validate_calls.specs.declared.misfit.Misfit.TheVariants as misfit
 use Rattle.wesl_validate_faults.specs.Calls.{misfit_told, AreCallFindings, AreFindingsWgsl}
@@ -63,7 +63,7 @@ module _ (u : UnitView) where
           let here : Contains (numbered j (calls_of u j)) (j, c) = to_mapped (λ (d : CallOf ℕ). (j, d)) (calls_of u j) c there in
           Contains-append_right (calls_below u n) (numbered n (calls_of u n)) (j, c) (subst (λ i. Contains (numbered i (calls_of u i)) (j, c)) e here)
 
-  pub from_below : (n : ℕ) (p : ℕ × CallOf ℕ) → Contains (calls_below u n) p → Contains (calls_of u p.0) p.1
+  from_below : (n : ℕ) (p : ℕ × CallOf ℕ) → Contains (calls_below u n) p → Contains (calls_of u p.0) p.1
   from_below zero p c = absurd (contains_none p c)
   from_below (suc n) p c = by (Contains-append_cases (calls_below u n) (numbered n (calls_of u n)) p c) (from_below n p)
     where
@@ -79,7 +79,7 @@ module _ (u : UnitView) where
     missed c (misfit.ParamCount e k g) (none, to, counts, is) p = none (p e to (counts_end e k counts))
     missed c (misfit.NotCallable e) (none, to, is_end, others) p = none (p e to is_end)
 
-    pub one_verdict : (c : CallOf ℕ) (r s : Option Misfit) → IsVerdict u b c r → IsVerdict u b c s → r ≡ s
+    one_verdict : (c : CallOf ℕ) (r s : Option Misfit) → IsVerdict u b c r → IsVerdict u b c s → r ≡ s
     one_verdict c None None h k = refl
     one_verdict c None (Some m) h k = absurd (missed c m k.0 h)
     one_verdict c (Some m) None h k = absurd (missed c m h.0 k)
@@ -135,20 +135,6 @@ module _ (u : UnitView) where
         by : (x ≡ c) ⊎ Contains cs c → (Contains cs c → IsJudged rest c.0 c.1) → IsJudged ms c.0 c.1
         by (inl q) r = subst (λ z. IsJudged ms z.0 z.1) q first
         by (inr q) r = let s = r q in (s.0, s.1, λ m f. subst (λ xs. Contains xs (c.0, m)) (sym e) (Contains-append_right (misfit_in x.0 v) rest (c.0, m) (s.2 m f)))
-
-    -- no misfit is told exactly where calls fit
-    pub fitting_if : AreMisfits u b [] → IsFitting u b
-    fitting_if are j e c there to is_end = let s = to_misfits (all_calls u) [] are (j, c) (to_below (count u) j c (inside j c there) there) in by s.0 s.1 s.2
-      where
-        by : (v : Option Misfit) → IsVerdict u b c v → ((m : Misfit) → v ≡ Some m → Contains {X = ℕ × Misfit} [] (j, m)) → Fits u b c
-        by None is r = is e to is_end
-        by (Some m) is r = absurd (contains_none (j, m) (r m refl))
-
-    pub none_if_fitting : IsFitting u b → (ms : List (ℕ × Misfit)) → AreMisfits u b ms → ms ≡ []
-    none_if_fitting fits [] are = refl
-    none_if_fitting fits (p ∷ ms) are =
-        let t = from_misfits (all_calls u) (p ∷ ms) are p (contains_here p ms) in
-        absurd (missed t.0 p.1 t.2 (λ e to is_end. fits p.0 e t.0 (from_below (count u) (p.0, t.0) t.1) to is_end))
 
     -- ---- as findings
     misfit_found : (j : ℕ) (m : Misfit) (c : CallOf ℕ) → Contains (calls_of u j) c → Misses u b c m → IsFoundWgsl u b (misfit_told u j m)

@@ -3,9 +3,7 @@ pub mod Closing
 pub mod Collecting
 pub mod Equality
 pub mod Fitting
-pub mod Inside
 pub mod Listing
-pub mod Misplaced
 pub mod Natural
 pub mod Placing
 pub mod Repeated

@@ -63,7 +63,7 @@ module _ (u : UnitView) (w : ℕ → Block) (os : List Found) (all_is : map (tol
         ap (λ ns. option_map (name_in ns) (slice_get (declared_in u j) 0)) (sym same)
         ∙ ap (λ ms. option_map (name_in names) (slice_get ms 0)) (named_is j ∙ sym (holders_are j))
 
-    pub misfit_is : (j : ℕ) (m : Misfit) → misfit_here names holders j m ≡ misfit_told u j m
+    misfit_is : (j : ℕ) (m : Misfit) → misfit_here names holders j m ≡ misfit_told u j m
     misfit_is j (misfit.ParamCount e k got) = ap (λ d. miscounted d (name_in names e) k got) (sym (round_is (Some j))) ∙ ap (λ ns. miscounted (name_of u j) (name_in ns e) k got) same
     misfit_is j (misfit.NotCallable e) = ap (λ d. not_callable d (name_in names e)) (sym (round_is (Some j))) ∙ ap (λ ns. not_callable (name_of u j) (name_in ns e)) same
 

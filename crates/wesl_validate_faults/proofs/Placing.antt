@@ -1,11 +1,12 @@
 -- Modules in which the number of each identifier is its place.
 use Rattle.std.proofs.Common.{◌≡◌, ℕ, zero, suc, ◌+◌, ◌<◌, ◌≤◌, ◌++◌, true, List, [], ◌∷◌, length, map, get_or, refl, sym, ap, ◌∙◌, subst, arith, add-one}
+use Rattle.std.specs.Prelude.{Option, Some, None, slice_get}
 use Rattle.std.specs.List.{All}
-use Rattle.std.proofs.lemmas.List.{length-map}
+use Rattle.std.proofs.lemmas.List.{get_or-map, length-map}
 use Rattle.std.proofs.lemmas.Simd.{map-map}
 use Rattle.wesl_tree_names.specs.Path.{Text}
-use Rattle.wesl_tree_syntax.specs.Tree.{Forest, end, tree, respell_forest}
-use Rattle.wesl_tree_syntax.specs.Unit.{UnitView, forest_of_unit, name_in, numbers, trees_of}
+use Rattle.wesl_tree_syntax.specs.Tree.{Forest, ForestOf, end, tree, identifiers, respell_forest}
+use Rattle.wesl_tree_syntax.specs.Unit.{UnitOf, UnitView, forest_of_unit, name_in, numbers, trees_of}
 use Rattle.wesl_tree_copies.specs.Renumbered.{renumbered}
 use Rattle.wesl_scope_numbers.specs.Leaves.{are_leaves}
 use Rattle.wesl_scope_numbers.specs.Nodes.{HasSameNodes}
@@ -65,7 +66,7 @@ module _ (u : UnitView) where
   copy_is w given same e is = one_unit (trees_of w) (placed u) (same ∙ ap (renumbered (forest_of_unit (trees_of u))) (e ∙ is))
 
   -- each place has the number that the identifier there has
-  pub forest_back : are_leaves (forest_of_unit (trees_of u)) ≡ true → respell_forest (number_at u) (forest_of_unit (placed u)) ≡ respell_forest (λ x. x) (forest_of_unit (trees_of u))
+  forest_back : are_leaves (forest_of_unit (trees_of u)) ≡ true → respell_forest (number_at u) (forest_of_unit (placed u)) ≡ respell_forest (λ x. x) (forest_of_unit (trees_of u))
   forest_back leaves = (respelled (number_at u) (λ x. x) (forest_of_unit (trees_of u)) (places u) [] leaves (all_named 0 (numbers u) ∙ back (numbers u))).0
     where
       back : (ns : List ℕ) → ns ≡ map (λ x. x) ns ++ []
@@ -80,7 +81,7 @@ module _ (u : UnitView) where
   first_of_three (tree a b c) = b
   first_of_three end = end
 
-  abbrev pub last_of_three : Forest → Forest
+  abbrev last_of_three : Forest → Forest
   last_of_three (tree a b (tree c d (tree e h i))) = h
   last_of_three _ = end
 

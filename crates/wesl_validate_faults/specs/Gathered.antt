@@ -15,17 +15,14 @@ use Rattle.wesl_validate_rules.specs.Graphs.{IsRing}
 use Rattle.wesl_validate_rules.specs.Known.{is_unknown}
 use Rattle.wesl_validate_calls.specs.declared.misfit.Misfit.{Misfit}
 use Rattle.wesl_validate_calls.specs.declared.misfit.Misfit.TheVariants as misfit
-use Rattle.wesl_validate_misfits.specs.declared.placed.PlacedMisfit.{PlacedMisfit}
 use Rattle.wesl_validate_faults.specs.Findings as spec
 use Rattle.wesl_validate_faults.specs.Listed.{module_numbers, AreCycles, IsFirst}
 use Rattle.wesl_validate_faults.specs.declared.finding.Finding.{Finding}
 use Rattle.wesl_validate_faults.specs.declared.finding.Finding.TheVariants as made
 use Rattle.wesl_validate_faults.specs.declared.uses.UndefinedUse.{UndefinedUse}
 use Rattle.wesl_validate_faults.specs.Members.{Member, member_at}
-use Rattle.wesl_validate_faults.specs.Misfitting.{Misfitting, misfitting_at}
 use Rattle.wesl_validate_faults.specs.Repeated.{Repeated, again_after, names_at, repeated_at}
 use Rattle.wesl_validate_faults.specs.Uses.{Use, use_at}
-use Rattle.wesl_validate_faults.specs.declared.misfitting.MisfitCall.{MisfitCall}
 use Rattle.wesl_validate_faults.specs.declared.twice.RepeatedName.{RepeatedName}
 use Rattle.wesl_validate_faults.specs.declared.members.RingMember.{RingMember}
 
@@ -52,29 +49,6 @@ members_view = map (λ x. member_at x.place x.name.now x.last x.via.now)
 -- what repeated names of the code stand for, one by one
 abbrev pub repeated_view : List RepeatedName → List Repeated
 repeated_view = map (λ x. repeated_at x.place x.first x.name.now)
-
--- what is found where a call fits nothing: how many arguments are taken and the call has, or that nothing there can be called
-abbrev pub misfit_by : Option Text → Text → Option (ℕ × ℕ) → spec.Finding
-misfit_by d n None = spec.not_callable d n
-misfit_by d n (Some (k, got)) = spec.miscounted d n k got
-
--- what a call of the code that fits nothing stands for
-abbrev pub misfitting_seen : MisfitCall → Misfitting
-misfitting_seen x = misfitting_at x.place (misfit_by (option_map (λ m. m.now) x.declaration) x.name.now x.counts)
-
--- the same of each, one by one
-abbrev pub misfitting_view : List MisfitCall → List Misfitting
-misfitting_view = map misfitting_seen
-
--- the number of the name of a misfit
-abbrev pub name_number : Misfit → ℕ
-name_number (misfit.ParamCount e k got) = e
-name_number (misfit.NotCallable e) = e
-
--- how many arguments are taken, and how many the call has
-abbrev pub counts_of : Misfit → Option (ℕ × ℕ)
-counts_of (misfit.ParamCount e k got) = Some (k, got)
-counts_of (misfit.NotCallable e) = None
 
 -- names with their first places, as the code keeps them
 abbrev pub firsts_view : List (Bor Text × ℕ) → List (ℕ × Text)
@@ -149,10 +123,6 @@ module _ (names : List Text) where
   abbrev pub misfit_here : Graph → ℕ → Misfit → spec.Finding
   misfit_here holders j (misfit.ParamCount e k got) = spec.miscounted (name_by holders (Some j)) (name_in names e) k got
   misfit_here holders j (misfit.NotCallable e) = spec.not_callable (name_by holders (Some j)) (name_in names e)
-
-  -- the same at its place
-  abbrev pub misfitting_here : Graph → PlacedMisfit → Misfitting
-  misfitting_here holders m = misfitting_at m.place (misfit_here holders m.declaration m.misfit)
 
   -- what is found of the number a, by the last on a way back to it: that it reaches itself; where there is no last one, nothing
   abbrev pub cycle_here : ℕ → Option ℕ → List spec.Finding

@@ -12,11 +12,10 @@ use Rattle.wesl_validate_rules.specs.Valid.{spelling, calls_of, AliasesTo, IsEnd
 use Rattle.wesl_validate_calls.specs.Misfits.{Misses}
 use Rattle.wesl_validate_calls.specs.Verdicts.{IsFirstEnd}
 use Rattle.wesl_validate_calls.specs.declared.misfit.Misfit.{Misfit}
-use Rattle.wesl_validate_faults.specs.Calls.{misfit_told, AreCallFindings, AreFindingsWgsl}
+use Rattle.wesl_validate_faults.specs.Calls.{misfit_told, AreFindingsWgsl}
 use Rattle.wesl_validate_faults.specs.Findings.{Finding, cycle, IsFound, IsFoundWgsl}
-use Rattle.wesl_validate_faults.specs.Listed.{AreCycles, AreFindings, duplicates, each_once, module_numbers, undefineds}
+use Rattle.wesl_validate_faults.specs.Listed.{AreCycles, AreFindings, duplicates, module_numbers, undefineds}
 use Rattle.wesl_validate_faults.specs.Members as members
-use Rattle.wesl_validate_faults.specs.Misfitting.{Misfitting, AreMisfitting}
 use Rattle.wesl_validate_faults.specs.Repeated as repeated
 use Rattle.wesl_validate_faults.specs.Repeated.{Repeated}
 use Rattle.wesl_validate_faults.specs.Members.{Member, AreMembers}
@@ -118,17 +117,3 @@ HasLeaves u = are_leaves (forest_of_unit (trees_of u)) ≡ true
 -- the names that are declared again, one by one, are the duplicates that are found, before each is told once
 abbrev pub RepeatedAreFindings : Type 0
 RepeatedAreFindings = (u : UnitView) → HasLeaves u → map repeated.finding_at (repeated.repeated u) ≡ duplicates u
-
--- ---- each call that fits nothing
-
--- the calls that fit nothing, one by one, are those of the findings, before each is told once
-abbrev pub MisfittingAreFindings : Type 0
-MisfittingAreFindings = (u : UnitView) (b : BuiltinNames) (cs : List Misfitting) → HasLeaves u → AreMisfitting u b cs → AreCallFindings u b (each_once (map (λ c. c.found) cs))
-
--- an identifier of the module stands at each place
-abbrev pub MisfittingStandThere : Type 0
-MisfittingStandThere = (u : UnitView) (b : BuiltinNames) (cs : List Misfitting) → HasLeaves u → AreMisfitting u b cs → (c : Misfitting) → Contains cs c → c.place < length (numbers u)
-
--- a module has no two lists of them
-abbrev pub MisfittingAreOneList : Type 0
-MisfittingAreOneList = (u : UnitView) (b : BuiltinNames) (cs ds : List Misfitting) → AreMisfitting u b cs → AreMisfitting u b ds → cs ≡ ds

@@ -4,7 +4,6 @@ pub mod Gathered
 pub mod Laws
 pub mod Listed
 pub mod Members
-pub mod Misfitting
 pub mod Placed
 pub mod Repeated
 pub mod Telling

@@ -1,5 +1,5 @@
 //! Laws of the definitions.
-ghost use Rattle.wesl_validate_faults.specs.Laws.{IsOneList, IsOneListWgsl, ListsEachCause, ListsEachCauseWgsl, ListsEachOnce, ListsEachOnceWgsl, ListsWhatStands, ListsWhatStandsWgsl, MembersAreFindings, MembersAreOneList, MembersStandThere, MisfittingAreFindings, MisfittingAreOneList, MisfittingStandThere, RepeatedAreFindings, TellsRefusals, TellsRefusalsWgsl, UsesAreFindings, UsesAreFree};
+ghost use Rattle.wesl_validate_faults.specs.Laws.{IsOneList, IsOneListWgsl, ListsEachCause, ListsEachCauseWgsl, ListsEachOnce, ListsEachOnceWgsl, ListsWhatStands, ListsWhatStandsWgsl, MembersAreFindings, MembersAreOneList, MembersStandThere, RepeatedAreFindings, TellsRefusals, TellsRefusalsWgsl, UsesAreFindings, UsesAreFree};
 
 /// All that is listed stands in the module, and what tells it is one of the refusals of `validate_wesl`.
 pub fn law_of_all()
@@ -49,12 +49,4 @@ pub fn law_of_ring_members()
 /// The names that are told as declared again are the duplicates of the findings.
 pub fn law_of_repeated_names()
     ensures findings { RepeatedAreFindings }
-{}
-
-/// The calls that are told as fitting nothing are those of the findings, before each is told once. A module has no two lists of
-/// them, and an identifier stands at each place.
-pub fn law_of_misfit_calls()
-    ensures findings { MisfittingAreFindings }
-    ensures one { MisfittingAreOneList }
-    ensures there { MisfittingStandThere }
 {}

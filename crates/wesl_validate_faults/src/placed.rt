@@ -1,5 +1,5 @@
 //! A copy of a module in which the number of each identifier is its place.
-ghost use Rattle.std.specs.Prelude.{◌≡◌, ◌<◌, ◌++◌, ◌∷◌, [], length, map, IfOk, IfErr};
+ghost use Rattle.std.specs.Prelude.{◌≡◌, ◌<◌, ◌++◌, ◌∷◌, [], get_or, length, map, IfOk, IfErr};
 ghost use Rattle.std.specs.List.{All};
 ghost use Rattle.wesl_tree_names.specs.declared.errors.Error as error;
 ghost use Rattle.wesl_tree_syntax.specs.Unit.{UnitView, name_in, numbers, trees_of};
@@ -69,4 +69,15 @@ pub(crate) fn numbers_of_all(
         given.push(occurrence.ident.0)?;
     }
     Ok(given)
+}
+
+/// The number at a place of the list, and past its end 0.
+pub(crate) fn number_of(numbers: &Vec<usize>, place: usize) -> usize
+    ensures { result ≡ get_or numbers.now.items place 0 }
+{
+    if place < numbers.len() {
+        numbers[place]
+    } else {
+        0
+    }
 }

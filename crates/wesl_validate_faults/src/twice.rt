@@ -8,13 +8,12 @@ ghost use Rattle.wesl_validate_faults.specs.Gathered.{AddsRepeated, firsts_view,
 ghost use Rattle.wesl_validate_faults.specs.Repeated.{again_by, first_of, repeated, with_first};
 
 use crate::laws::law_of_repeated_names;
-use crate::placed::{numbers_of_all, placed};
+use crate::placed::{number_of, numbers_of_all, placed};
 use indexmap::IndexMap;
 use std::alloc::{AllocError, Global};
 use wesl_scope_occurrences::occurrences;
 use wesl_tree::TranslationUnit;
 use wesl_tree_names::{Error, Names};
-use wesl_validate_misfits::number_of;
 use wesl_validate_rules::{name_of, plain_numbers};
 
 /// A name that is declared again.

@@ -1,13 +1,18 @@
-use Rattle.std.proofs.Common.{◌≤◌, ◌+◌, ◌-◌, option_copied, Contains, List, arith, sym, subst}
+use Rattle.std.proofs.Common.{◌≡◌, ◌≤◌, ◌+◌, true, option_copied, Contains, List, arith, sym, subst}
 use Rattle.std.proofs.lemmas.List.Elements.{Contains-get_or}
 use Rattle.wesl_cond_covers.specs.declared.level.Level.{Level}
 use Rattle.wesl_cond_covers.proofs.Passes.{pass_level}
 use Rattle.wesl_cond_covers.proofs.covers.behind.Goals as goal
 
-pub returns-then-passes-clause-apart : goal.returns-then-passes-clause-apart
-returns-then-passes-clause-apart c =
+pub loop-level-preserved : goal.loop-level-preserved
+loop-level-preserved c =
     let levels : List Level = c.args.levels.now in
-    let l : Level = c.index-levels-i.result in
-    let there : Contains levels l = subst (Contains levels) (sym c.index-levels-i.is) (Contains-get_or levels (c.levels.i - 1) l (omega (arith, c.levels.invariant))) in
-    let within : c.saturating_add.result ≤ c.args.index + l.span = omega (arith, c.saturating_add.ensures) in
-    pass_level levels l (option_copied c.args.set) c.args.index c.saturating_add.result (c.args.index + l.span) there (c.passes.ensures c.if-passes.true) within
+    let l : Level = c.level-item.result in
+    let there : Contains levels l = subst (Contains levels) (sym c.level-item.is) (Contains-get_or levels c.loop-level.level-index l c.loop-level-test.true) in
+    let passes : c.passes.result ≡ true = c.if-not-passes.false in
+    let within : c.saturating_add-behind.result ≤ c.args.index + l.span = omega (arith, c.saturating_add-behind.ensures) in
+    let ahead : c.args.index ≤ c.saturating_add-behind.result = omega (arith, c.saturating_add-behind.ensures) in
+    record {
+      ahead = ahead;
+      passed = pass_level levels l (option_copied c.args.set) c.args.index c.saturating_add-behind.result (c.args.index + l.span) there (c.passes.ensures passes) within;
+    }

@@ -1,8 +1,9 @@
-use Rattle.std.proofs.Common.{◌≤◌, length}
+use Rattle.std.proofs.Common.{◌≤◌, option_copied}
+use Rattle.wesl_cond_covers.specs.LevelView.{LevelsPass}
 use Rattle.wesl_cond_covers.proofs.covers.behind.Given as goal
 
-abbrev pub invariant-levels : goal.invariant-levels
-invariant-levels l = l.i ≤ length l.levels
-
-abbrev pub decreases-levels : goal.decreases-levels
-decreases-levels l = l.i
+abbrev pub invariant-loop-level : goal.invariant-loop-level
+invariant-loop-level l = record {
+  ahead : l.index ≤ l.behind;
+  passed : LevelsPass l.levels (option_copied l.set) l.index l.behind;
+}

@@ -7,5 +7,5 @@ loop-at-preserved c = record {
   begun = omega arith;
   ahead = c.behind-end-in-loop-at.ensures.ahead;
   passed = pass_on c.args.levels.now (option_copied c.args.set) c.args.index c.loop-at.at c.loop-at.end c.loop-at.invariant.passed c.loop-at.invariant.more;
-  more = c.behind-end-in-loop-at.ensures.apart;
+  more = c.behind-end-in-loop-at.ensures.unseen;
 }

@@ -1,4 +1,4 @@
-use Rattle.std.proofs.Common.{◌≡◌, ◌+◌, ◌≤◌, suc, Some, List, [], ◌∷◌, take, length, arith, refl, sym, subst}
+use Rattle.std.proofs.Common.{◌≡◌, ◌+◌, ◌≤◌, suc, Some, List, [], ◌∷◌, take, length, Contains, arith, refl, sym, subst}
 use Rattle.std.specs.Prelude.{slice_get}
 use Rattle.std.proofs.lemmas.List.{take_all}
 use Rattle.std.proofs.lemmas.Option.{slice_get_read}
@@ -17,7 +17,7 @@ pub loop-index-init : goal.loop-index-init
 loop-index-init c =
     let l = c.args.link.now in
     let new = c.add_home.new.homes.entries in
-    let adds : AddsHome l.linked.tables l.root 0 [] new = subst (λ es. AddsHome l.linked.tables l.root 0 es new) c.new-homes.ensures.empty c.in_ok-add_home.ensures in
+    let adds : AddsHome l.linked.tables l.root 0 [] new = subst (λ es. AddsHome l.linked.tables l.root 0 es new) c.new-homes.ensures c.in_ok-add_home.ensures in
     record {
       right = right_next l c.requires l.root 0 [] new refl (λ p i d. absurd (contains_nil (p, i) d)) adds;
       all = λ n d. homes_next l c.requires [] l.root 0 [] new (λ m e. absurd (contains_nil m e)) adds n (contains_cases l.root n [] d);

@@ -1,4 +1,4 @@
-use Rattle.std.proofs.Common.{ap, sym, ◌∙◌}
+use Rattle.std.proofs.Common.{◌≡◌, Some, ap, sym, ◌∙◌}
 use Rattle.std.specs.Prelude.{option_copied}
 use Rattle.wesl_tree_names.specs.Path.{join, path_view}
 use Rattle.wesl_link_paths.proofs.Ways.{if_ok}

@@ -1,4 +1,4 @@
-use Rattle.std.proofs.Common.{Some, map, string_bytes, ap, ◌∙◌}
+use Rattle.std.proofs.Common.{◌≡◌, Some, map, string_bytes, ap, ◌∙◌}
 use Rattle.wesl_tree_names.specs.Path.{path_view}
 use Rattle.wesl_link_tables.specs.Numbering.{path_in}
 use Rattle.wesl_link_tables.specs.NumbersView.{numbering, names_of, paths_of}

@@ -1,4 +1,4 @@
-use Rattle.std.proofs.Common.{◌≡◌, [], ◌∙◌, ◌<◌, ◌≤◌, ◌+◌, ◌++◌, arith, refl, ap, subst, sym, map, take, length}
+use Rattle.std.proofs.Common.{◌≡◌, [], ◌∙◌, ◌<◌, ◌≤◌, ◌+◌, ◌++◌, arith, ap, subst, sym, map, take, length}
 use Rattle.wesl_cond_choices.specs.declared.place.Place.TheVariants as places
 use Rattle.wesl_link_tables.specs.Numbering.{path_in}
 use Rattle.wesl_link_tables.specs.NumbersView.{paths_of}
@@ -13,7 +13,7 @@ pub loop-i-init : goal.loop-i-init
 loop-i-init c =
     let paths = paths_of c.args.paths.now in
     let none : HavePaths paths [] = λ k d b. absurd (omega (arith, b)) in
-    record { found = ap (map (import_view paths)) c.in_ok-found.ensures.items; known = subst (λ is. HavePaths paths is) (sym c.in_ok-found.ensures.items) none; last = (tt, refl); grows = longer_itself paths }
+    record { found = ap (map (import_view paths)) c.in_ok-found.ensures.items; known = subst (λ is. HavePaths paths is) (sym c.in_ok-found.ensures.items) none; grows = longer_itself paths }
 
 pub loop-i-preserved : goal.loop-i-preserved
 loop-i-preserved c =
@@ -25,12 +25,11 @@ loop-i-preserved c =
     let number : 0 + c.loop-i.i ≡ c.loop-i.i = omega arith in
     let stays = path_same (paths_of c.args.paths.now) (paths_of c.loop-i.paths) c.loop-i.invariant.grows c.args.own c.requires in
     record {
-      found = c.in_ok-last.ensures.imports
+      found = c.in_ok-add_statement.ensures.imports
           ∙ (ap (λ p. map (import_view (paths_of c.loop-i.paths)) c.loop-i.found.items ++ imports_of p (places.Import c.loop-i.i) x) stays
           ∙ (ap (λ l. l ++ imports_of own (places.Import c.loop-i.i) x) c.loop-i.invariant.found
           ∙ (ap (λ k. so_far ++ imports_of own (places.Import k) x) (sym number) ∙ sym (imports_next own 0 xs c.loop-i.i x bound c.index.ensures))));
-      known = c.in_ok-last.ensures.known;
-      last = c.in_ok-last.ensures.last;
+      known = c.in_ok-add_statement.ensures.known;
       grows = longer_trans (paths_of c.args.paths.now) (paths_of c.loop-i.paths) (paths_of c.add_statement.new.paths) c.loop-i.invariant.grows c.add_statement.ensures.grows;
     }
 
@@ -40,8 +39,8 @@ add_statement-requires-clause-own c = below_later (paths_of c.args.paths.now) (p
 pub add_statement-requires-clause-known : goal.add_statement-requires-clause-known
 add_statement-requires-clause-known c = c.loop-i.invariant.known
 
-pub returns-in_err-last-clause-grows : goal.returns-in_err-last-clause-grows
-returns-in_err-last-clause-grows c = longer_trans (paths_of c.args.paths.now) (paths_of c.loop-i.paths) (paths_of c.add_statement.new.paths) c.loop-i.invariant.grows c.add_statement.ensures.grows
+pub returns-in_err-add_statement-clause-grows : goal.returns-in_err-add_statement-clause-grows
+returns-in_err-add_statement-clause-grows c = longer_trans (paths_of c.args.paths.now) (paths_of c.loop-i.paths) (paths_of c.add_statement.new.paths) c.loop-i.invariant.grows c.add_statement.ensures.grows
 
 pub returns-clause-imports : goal.returns-clause-imports
 returns-clause-imports c =
@@ -55,6 +54,3 @@ returns-clause-known c = c.loop-i.invariant.known
 
 pub returns-clause-grows : goal.returns-clause-grows
 returns-clause-grows c = c.loop-i.invariant.grows
-
-pub add_statement-requires-clause-last : goal.add_statement-requires-clause-last
-add_statement-requires-clause-last c = c.loop-i.invariant.last

@@ -6,10 +6,10 @@ use Rattle.wesl_link_symbols.specs.Index.{Binds}
 use Rattle.wesl_link_faults.proofs.Over.{start, next}
 use Rattle.wesl_explain_world.proofs.asking.Asked.put_targets.Goals as goal
 
-pub targets-init : goal.targets-init
-targets-init c = start (Binds c.args.name) (λ (k : ℕ) (i : Import PathId NameId). Unit {0}) c.args.table.now.imports c.latest_import_of-at.result c.latest_import_of-at.ensures
+pub imports-init : goal.imports-init
+imports-init c = start (Binds c.args.name) (λ (k : ℕ) (i : Import PathId NameId). Unit {0}) c.args.table.now.imports c.latest_import_of-at.result c.latest_import_of-at.ensures
 
-pub targets-preserved : goal.targets-preserved
-targets-preserved c =
-    next (Binds c.args.name) (λ (k : ℕ) (i : Import PathId NameId). Unit {0}) c.args.table.now.imports c.targets.at c.in-Some.index c.earlier_import_of-at.result c.in-Some.is
-    c.targets.invariant (λ i there. tt) c.earlier_import_of-at.ensures
+pub imports-preserved : goal.imports-preserved
+imports-preserved c =
+    next (Binds c.args.name) (λ (k : ℕ) (i : Import PathId NameId). Unit {0}) c.args.table.now.imports c.imports.at c.in-Some.index c.earlier_import_of-at.result c.in-Some.is
+    c.imports.invariant (λ i there. tt) c.earlier_import_of-at.ensures

@@ -7,8 +7,8 @@ use Rattle.wesl_link_symbols.proofs.Indexing.{steps}
 use Rattle.wesl_link_faults.proofs.Over.{IsOver}
 use Rattle.wesl_explain_world.proofs.asking.Asked.put_targets.Given as goal
 
-abbrev pub invariant-targets : goal.invariant-targets
-invariant-targets l = IsOver (Binds l.name) (λ (k : ℕ) (i : Import PathId NameId). Unit {0}) l.table.imports l.at
+abbrev pub invariant-imports : goal.invariant-imports
+invariant-imports l = IsOver (Binds l.name) (λ (k : ℕ) (i : Import PathId NameId). Unit {0}) l.table.imports l.at
 
-abbrev pub decreases-targets : goal.decreases-targets
-decreases-targets l = steps l.at
+abbrev pub decreases-imports : goal.decreases-imports
+decreases-imports l = steps l.at

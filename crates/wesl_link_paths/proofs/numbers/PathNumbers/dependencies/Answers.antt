@@ -1,9 +1,9 @@
-use Rattle.std.proofs.Common.{◌+◌, Some, [], drop, ap, sym, ◌∙◌}
+use Rattle.std.proofs.Common.{◌≡◌, ◌+◌, Some, [], drop, ap, sym, ◌∙◌}
 use Rattle.wesl_tree_base.specs.Borrowed.{texts}
 use Rattle.wesl_link_paths.specs.Longer.{path_in}
 use Rattle.wesl_link_paths.specs.Nodes.{is_root, packaged}
 use Rattle.wesl_link_paths.specs.NumbersView.{paths_of}
-use Rattle.wesl_link_paths.proofs.Lists.{held_below, longer_trans, path_held, path_of}
+use Rattle.wesl_link_paths.proofs.Lists.{held_below, longer_itself, longer_trans, path_held, path_of}
 use Rattle.wesl_link_paths.proofs.Joined.{drop_end, drop_next}
 use Rattle.wesl_link_paths.proofs.Nodes.{root_is}
 use Rattle.wesl_link_paths.proofs.numbers.PathNumbers.dependencies.Goals as goal

@@ -1,4 +1,4 @@
-use Rattle.std.proofs.Common.{Some, map, take, string_bytes, ap, ap₂, sym, ◌∙◌}
+use Rattle.std.proofs.Common.{◌≡◌, Some, List, ◌∷◌, [], ◌++◌, map, take, string_bytes, ap, ap₂, sym, ◌∙◌}
 use Rattle.wesl_tree_names.specs.Path.{extend, push}
 use Rattle.wesl_link_paths.specs.Longer.{path_in}
 use Rattle.wesl_link_paths.specs.NumbersView.{paths_of}

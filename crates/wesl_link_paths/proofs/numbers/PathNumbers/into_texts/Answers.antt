@@ -2,7 +2,7 @@ use Rattle.std.proofs.Common.{◌≡◌, List, All, false, map, string_bytes, ap
 use Rattle.wesl_tree_names.specs.Path.{Text, Path, is_relative}
 use Rattle.wesl_tree_interner.specs.Different.{AreDifferent}
 use Rattle.wesl_link_paths.specs.Nodes.{AreWhole, paths_by}
-use Rattle.wesl_link_paths.specs.NumbersView.{parts_of}
+use Rattle.wesl_link_paths.specs.NumbersView.{parts_of, paths_of}
 use Rattle.wesl_link_paths.specs.declared.node.PathNode.{PathNode}
 use Rattle.wesl_link_paths.proofs.numbers.PathNumbers.into_texts.Goals as goal
 

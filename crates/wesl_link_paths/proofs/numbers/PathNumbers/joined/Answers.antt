@@ -1,4 +1,4 @@
-use Rattle.std.proofs.Common.{Some, map, string_bytes, ap, ap₂, ◌∙◌}
+use Rattle.std.proofs.Common.{◌≡◌, Some, map, string_bytes, ap, ap₂, ◌∙◌}
 use Rattle.wesl_tree_names.specs.Path.{extend, origin_view}
 use Rattle.wesl_link_paths.specs.Longer.{path_in}
 use Rattle.wesl_link_paths.specs.NumbersView.{paths_of}

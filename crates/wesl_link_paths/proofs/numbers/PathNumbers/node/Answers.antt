@@ -1,4 +1,4 @@
-use Rattle.std.proofs.Common.{◌<◌, length, subst, true≢false, sym}
+use Rattle.std.proofs.Common.{◌<◌, length, None, subst, true≢false, sym}
 use Rattle.std.specs.Prelude.{IsSome}
 use Rattle.wesl_link_paths.specs.NumbersView.{parts_of}
 use Rattle.wesl_link_paths.proofs.Ways.{node_below}

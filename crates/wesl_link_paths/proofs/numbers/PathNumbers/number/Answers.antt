@@ -1,4 +1,4 @@
-use Rattle.std.proofs.Common.{Some, ap, ◌∙◌}
+use Rattle.std.proofs.Common.{◌≡◌, Some, ap, ◌∙◌}
 use Rattle.wesl_tree_names.specs.Path.{join, path_view}
 use Rattle.wesl_link_paths.specs.NumbersView.{paths_of}
 use Rattle.wesl_link_paths.proofs.Lists.{held_below, longer_trans, path_of}

@@ -1,3 +1,4 @@
+use Rattle.std.proofs.Common.{◌≡◌, ap, ◌∙◌}
 use Rattle.wesl_link_paths.specs.NumbersView.{parts_of}
 use Rattle.wesl_link_paths.proofs.Putting.{put_asked, put_different, put_held, put_longer, put_whole}
 use Rattle.wesl_link_paths.proofs.numbers.PathNumbers.number_node.Goals as goal

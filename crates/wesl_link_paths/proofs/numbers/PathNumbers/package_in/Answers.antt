@@ -1,4 +1,4 @@
-use Rattle.std.proofs.Common.{Some, ap, ◌∙◌}
+use Rattle.std.proofs.Common.{◌≡◌, Some, ap, sym, ◌∙◌}
 use Rattle.wesl_tree_base.specs.Borrowed.{texts}
 use Rattle.wesl_tree_names.specs.Path.{root_path}
 use Rattle.wesl_link_paths.specs.Longer.{path_in}

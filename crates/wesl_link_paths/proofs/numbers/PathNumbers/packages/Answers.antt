@@ -1,4 +1,4 @@
-use Rattle.std.proofs.Common.{Some, [], reverse, ap, sym, ◌∙◌}
+use Rattle.std.proofs.Common.{◌≡◌, Some, [], ◌++◌, ◌∷◌, reverse, map, ap, sym, subst, ◌∙◌}
 use Rattle.wesl_tree_base.specs.Borrowed.{texts}
 use Rattle.wesl_link_paths.specs.Longer.{path_in}
 use Rattle.wesl_link_paths.specs.Nodes.{packaged, part_in}
@@ -26,7 +26,7 @@ loop-outer-preserved c =
     record {
       below = outer_below (parts_of n) n.nodes.keys n.whole c.loop-outer.at c.in-Package.outer c.in-Package.name at;
       root = outer_root (parts_of n) n.nodes.keys n.whole c.loop-outer.at c.in-Package.outer c.in-Package.name at;
-      found = ap (λ l. packaged (path_in (paths_of n) c.in-Package.outer).origin (reverse l)) (texts_next (λ y. y.now) c.loop-outer.names.items c.push.new.self.items c.get.result (part_in (parts_of n) c.in-Package.name) c.in_ok-push.ensures.items (sym (getting (parts_of n) c.in-Package.name.0 c.get.result.now [] c.get.ensures)))
+      found = ap (λ l. packaged (path_in (paths_of n) c.in-Package.outer).origin (reverse l)) (texts_next c.loop-outer.names.items c.push.new.self.items c.get.result (part_in (parts_of n) c.in-Package.name) c.in_ok-push.ensures.items (sym (getting (parts_of n) c.in-Package.name.0 c.get.result.now [] c.get.ensures)))
           ∙ packages_next (path_in (paths_of n) c.loop-outer.at) (path_in (paths_of n) c.in-Package.outer) (part_in (parts_of n) c.in-Package.name) (texts c.loop-outer.names.items) _ one c.loop-outer.invariant.found;
     }
 
@@ -34,4 +34,4 @@ pub returns : goal.returns
 returns c =
     let n = c.args.self.now in
     let first = first_root (parts_of n) n.nodes.keys n.whole c.loop-outer.at c.node.result c.node.ensures (λ p m e. c.in_default.not-Package p m e) c.loop-outer.invariant.root in
-    ap (packaged _) (texts_turned (λ y. y.now) c.loop-outer.names.items c.reverse.new.self.items c.reverse.ensures.items) ∙ (ap (λ o. packaged o (reverse (texts c.loop-outer.names.items))) (sym first) ∙ c.loop-outer.invariant.found)
+    ap (packaged _) (texts_turned c.loop-outer.names.items c.reverse.new.self.items c.reverse.ensures.items) ∙ (ap (λ o. packaged o (reverse (texts c.loop-outer.names.items))) (sym first) ∙ c.loop-outer.invariant.found)

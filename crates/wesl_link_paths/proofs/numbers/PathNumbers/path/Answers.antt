@@ -1,4 +1,4 @@
-use Rattle.std.proofs.Common.{arith}
+use Rattle.std.proofs.Common.{◌≡◌, arith}
 use Rattle.wesl_link_paths.specs.NumbersView.{parts_of, paths_of}
 use Rattle.wesl_link_paths.proofs.Lists.{none_above}
 use Rattle.wesl_link_paths.proofs.Nodes.{paths_length}

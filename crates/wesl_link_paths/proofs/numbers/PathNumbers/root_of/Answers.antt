@@ -1,4 +1,5 @@
-use Rattle.std.proofs.Common.{Some, ap, ◌∙◌}
+use Rattle.std.proofs.Common.{◌≡◌, Some, ap, sym, subst, ◌∙◌}
+use Rattle.std.specs.Prelude.{slice_get}
 use Rattle.wesl_link_paths.specs.NumbersView.{parts_of, paths_of}
 use Rattle.wesl_link_paths.proofs.Lists.{path_held}
 use Rattle.wesl_link_paths.proofs.Ways.{other_root, root_held}

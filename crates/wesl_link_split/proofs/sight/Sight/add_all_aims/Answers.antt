@@ -7,8 +7,8 @@ use Rattle.wesl_link_split.specs.Split.{Binder}
 use Rattle.wesl_link_split.proofs.Aims.{group_named}
 use Rattle.wesl_link_split.proofs.sight.Sight.add_all_aims.Goals as goal
 
-pub add_group_aims-requires-clause-group : goal.add_group_aims-requires-clause-group
-add_group_aims-requires-clause-group c =
+pub add_aims-requires-clause-group : goal.add_aims-requires-clause-group
+add_aims-requires-clause-group c =
     let s = c.args.self.now in
     subst (λ (bs : List (Binder PathId NameId)). IsGroup (sight_view s) bs) (sym c.deref.ensures.value)
     (group_named s.binders.items s.names.keys s.groups.items s.grouped c.loop-group.group-index c.group-item.result

@@ -13,14 +13,8 @@ lead-lead-requires c =
     let b = c.args.binder.now in
     (both_true (b.path.0 == s.own.0) (split.is_split ids s.binders b.item) (sym c.is_own_split.ensures ∙ c.if-not-is_own_split.false)).1
 
-pub found_of-requires-clause-split : goal.found_of-requires-clause-split
-found_of-requires-clause-split c =
-    let s = sight_view c.args.self.now in
-    let b = c.args.binder.now in
-    (both_true (b.path.0 == s.own.0) (split.is_split ids s.binders b.item) (sym c.is_own_split.ensures ∙ c.if-not-is_own_split.false)).1
-
-pub found_of-requires-clause-lead : goal.found_of-requires-clause-lead
-found_of-requires-clause-lead c =
+pub found_of-requires : goal.found_of-requires
+found_of-requires c =
     let s = sight_view c.args.self.now in
     let b = c.args.binder.now in
     subst (IsStart c.lead-lead.result) (all_lead (split.seen ids s b.item b.stands)) c.lead-lead.ensures

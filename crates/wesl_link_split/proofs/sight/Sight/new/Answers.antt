@@ -16,6 +16,6 @@ invariant_of-result c =
       grouped = grouped;
       facts_are = facts;
       split = c.is_any_split-is_any_split.ensures ∙ (ap (list_any (λ f. f.is_split)) (c.deref-3.ensures.value ∙ facts) ∙ any_fact c.args.binders.items ns gs grouped);
-      covered = covered_none _ gs c.new-sights.result.items c.new-sights.ensures.items;
+      covered = covered_none _ gs c.new-covers.result.items c.new-covers.ensures.items;
       sorted = sorted_none _ _;
     }

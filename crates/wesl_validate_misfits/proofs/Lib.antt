@@ -1,3 +1,0 @@
-pub mod Gathered
-pub mod Renumbered
-pub mod Same
