@@ -24,7 +24,7 @@ pub fn chain_of(
     name: Option<NameId>,
 ) -> Result<Chain, AllocError> {
     let Some(until) = &told.until else {
-        return Cut::of(alloc, &told.chain(alloc, path, name)?);
+        return told.steps(alloc, path, name);
     };
     let node = match name {
         Some(name) => Node::Item(Symbol { path, name }),

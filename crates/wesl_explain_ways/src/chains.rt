@@ -65,6 +65,11 @@ impl Depths {
         }
     }
 
+    /// Whether the chain to the node at a place is cut.
+    pub fn is_cut(&self, place: usize) -> bool {
+        is_cut(self.length(place))
+    }
+
     /// The chain to the node at a place. These are the nodes of which the lengths are known.
     pub fn chain(&self, alloc: Global, nodes: &[Found], place: usize) -> Result<Chain, AllocError> {
         let length = self.length(place);

@@ -33,21 +33,6 @@ impl<T: Copy> Cut<T> {
         }
     }
 
-    /// A list, without its middle where it is long.
-    pub fn of(alloc: Global, items: &[T]) -> Result<Cut<T>, AllocError> {
-        let count = items.len();
-        let (first, last) = if is_cut(count) {
-            (END, count.saturating_sub(END))
-        } else {
-            (count, count)
-        };
-        Ok(Cut {
-            first: Vec::from_slice(alloc, items.get(..first).unwrap_or(&[]))?,
-            left_out: last.saturating_sub(first),
-            last: Vec::from_slice(alloc, items.get(last..).unwrap_or(&[]))?,
-        })
-    }
-
     /// How many items the list has.
     pub fn len(&self) -> usize {
         let told = self.first.len().saturating_add(self.last.len());

@@ -3,10 +3,11 @@ ghost use Rattle.std.specs.Prelude.{IfOk};
 ghost use Rattle.wesl_explain_world.specs.Why.{TellsWhyIn, node_of};
 ghost use Rattle.wesl_explain_world.specs.Explained.{TellsNothing};
 
-use crate::world::{Steps, reason_of};
+use crate::world::{Steps, node_at, reason_of};
 use serde_json::Value;
 use std::alloc::{AllocError, Global};
-use wesl_explain_faults::{HeldUntil, LinkFault};
+use wesl_explain_faults::{Chain, Cut, HeldUntil, LinkFault};
+use wesl_explain_ways::Depths;
 use wesl_json::value_of_text;
 use wesl_link_reach::link::Linked;
 use wesl_link_reasons::Reasons;
@@ -22,6 +23,8 @@ pub struct Explanation {
     pub names: Vec<String>,
     /// Who asked first for each thing that is held in a link.
     pub reasons: Option<Reasons>,
+    /// How long the chain to each of these is.
+    pub depths: Depths,
     /// The modules that were loaded for a link, the root first and the others in path order.
     pub modules: Vec<PathId>,
     /// The declarations that are held, in the order of the linked unit.
@@ -55,6 +58,7 @@ impl Explanation {
             paths: Vec::new(alloc),
             names: Vec::new(alloc),
             reasons: None,
+            depths: Depths::new(alloc),
             modules: Vec::new(alloc),
             held: Vec::new(alloc),
             clashes: Vec::new(alloc),
@@ -82,6 +86,40 @@ impl Explanation {
         match &self.reasons {
             Some(reasons) => reason_of(alloc, reasons, path, name),
             None => Ok(Vec::new(alloc)),
+        }
+    }
+
+    /// The same without its middle where it is long.
+    pub fn steps(
+        &self,
+        alloc: Global,
+        path: PathId,
+        name: Option<NameId>,
+    ) -> Result<Chain, AllocError>
+    {
+        match &self.reasons {
+            Some(reasons) => self.steps_in(alloc, reasons, path, name),
+            None => Ok(Cut::new(alloc)),
+        }
+    }
+
+    /// A chain of these reasons, without its middle where it is long.
+    fn steps_in(
+        &self,
+        alloc: Global,
+        reasons: &Reasons,
+        path: PathId,
+        name: Option<NameId>,
+    ) -> Result<Chain, AllocError> {
+        match reasons.place_of(node_at(path, name)) {
+            Some(place) if self.depths.is_cut(place) => {
+                self.depths.chain(alloc, reasons.nodes(), place)
+            }
+            _ => Ok(Cut {
+                first: reason_of(alloc, reasons, path, name)?,
+                left_out: 0,
+                last: Vec::new(alloc),
+            }),
         }
     }
 
