@@ -56,6 +56,6 @@ ComesTo m s l = Comes (world_in m) (task_in m) s.asked l
 abbrev pub IsAskedIn : Linking → Ahead → LookUp PathId NameId → Type 0
 IsAskedIn m s l = IsAsked (world_in m) (task_in m) s.asked l
 
--- what was asked was asked
+-- each question that was asked stays asked
 abbrev pub KeepsAsked : Ahead → Ahead → Type 0
 KeepsAsked from to = (q : Symbol PathId NameId) → Contains from.asked q → Contains to.asked q

@@ -430,8 +430,8 @@ impl Ahead {
     }
 
     /// Goes on as far as the modules lead that are there now, each of which is entered, and tells the entered paths that were
-    /// not told before. Each module, symbol and question is taken once, however often it is called. Refused for want of memory
-    /// alone.
+    /// not told before. Each module, symbol and question is taken once, however often it is called. No clause says that all
+    /// entered paths are told: who needs them all looks once more. Refused for want of memory alone.
     pub fn go_on(&mut self, alloc: Global, linking: &Linking<'_>) -> Result<Vec<PathId>, AllocError>
         requires ahead { IsAheadIn linking.now self.old }
         requires modules { AreEntered linking.now }
