@@ -27,6 +27,13 @@ pub(crate) fn check_whole(alloc: Global, value: &BorrowedValue<'_>) -> Result<()
     }
 }
 
+// Whether it is a text, as most members are: no number stands in it.
+fn is_text(value: &BorrowedValue<'_>) -> bool
+    ensures { result ≡ true → has_float (borrowed_view value.now) ≡ false }
+{
+    matches!(value, BorrowedValue::String(_))
+}
+
 // Whether each number that stands in it is read as a whole one. A member counts that a later one with its key replaces, so
 // a value may have no such number and yet be none of these.
 #[cycle(whole)]
@@ -58,7 +65,7 @@ fn have_whole(members: Members<'_>) -> bool
     ensures { result ≡ true → members_have_float (borrowed_members_view members.now) ≡ false }
 {
     for member in members {
-        if !is_whole(&member.1) {
+        if !is_text(&member.1) && !is_whole(&member.1) {
             return false;
         }
     }
