@@ -19,7 +19,7 @@ use wesl_tree_syntax::{Attribute, AttributeNode};
 
 /// Whether several of the attributes are conditions.
 #[tactic(auto, using(crate::proofs::Places::several_steps))]
-fn has_several(attributes: &[AttributeNode]) -> bool
+pub fn has_several(attributes: &[AttributeNode]) -> bool
     ensures { result ≡ is_several (conditions (attributes_forest attributes.now)) }
 {
     let mut seen = false;
@@ -36,7 +36,7 @@ fn has_several(attributes: &[AttributeNode]) -> bool
 
 /// Whether an `@elif` or an `@else` may come after a node of these attributes.
 #[tactic(auto, using(crate::proofs::Places::opens_steps))]
-fn opens(attributes: &[AttributeNode]) -> bool
+pub fn opens(attributes: &[AttributeNode]) -> bool
     ensures { result ≡ opens (conditions (attributes_forest attributes.now)) }
 {
     for attribute in attributes {
@@ -83,7 +83,7 @@ fn check_formulas(
 }
 
 /// Whether the first condition goes on with a chain, and none is open.
-fn is_orphan(attributes: &[AttributeNode], opened: bool) -> bool
+pub fn is_orphan(attributes: &[AttributeNode], opened: bool) -> bool
     ensures { result ≡ not opened && follows_on (first_condition (attributes_forest attributes.now)) }
 {
     !opened && follows_on(attributes)

@@ -11,7 +11,7 @@ mod lists;
 mod nodes;
 
 pub use conditions::{Condition, condition_of};
-pub use faults::{check_both, check_list};
+pub use faults::{check_both, check_list, has_several, is_orphan, opens};
 pub use formula::{decided, name_of, simplify};
 pub use judge::check_formula;
 pub use laws::{

@@ -1,17 +1,13 @@
 //! The faults of the conditions among the attributes of a node.
-ghost use Rattle.std.specs.Prelude.{◌≡◌, ◌&&◌, List, map, not};
-ghost use Rattle.wesl_cond_chains.specs.Chains.{follows_on};
-ghost use Rattle.wesl_cond_chains.specs.Conditions.{first_condition};
-ghost use Rattle.wesl_cond_chains.specs.Faults.{conditions, opens, place_faults};
-ghost use Rattle.wesl_cond_chains.specs.Nodes.{attributes_forest, condition_of_attribute, is_any, is_several, replies};
-ghost use Rattle.wesl_cond_chains.specs.Places.{condition_places, found_at, all_condition_places};
+ghost use Rattle.std.specs.Prelude.{◌≡◌};
+ghost use Rattle.wesl_cond_chains.specs.Nodes.{attributes_forest, condition_of_attribute, is_any};
+ghost use Rattle.wesl_cond_chains.specs.Places.{condition_places, all_condition_places};
 ghost use Rattle.wesl_cond_faults.specs.Places.{condition_spans, second_or_only, span_or};
-ghost use Rattle.wesl_cond_faults.specs.Telling.{AddsFaults};
-ghost use Rattle.wesl_tree_names.specs.Path.{Text};
+ghost use Rattle.wesl_cond_faults.specs.Telling.{AddsFound, AddsMisplaced};
 
 use crate::formula::tell_formula;
 use crate::told::Told;
-use wesl_cond_chains::{Condition, condition_of};
+use wesl_cond_chains::{Condition, condition_of, has_several, is_orphan};
 use wesl_cond_features::Features;
 use wesl_tree_names::{CondCompError, Names, Span};
 use wesl_tree_syntax::{Attribute, AttributeNode};
@@ -21,58 +17,6 @@ fn is_condition(attribute: &Attribute) -> bool
     ensures { result ≡ is_any (condition_of_attribute attribute.now) }
 {
     condition_of(attribute).is_some()
-}
-
-/// Whether several of the attributes are conditions.
-#[tactic(auto, using(wesl_cond_chains::proofs::Places::several_steps))]
-fn has_several(attributes: &[AttributeNode]) -> bool
-    ensures { result ≡ is_several (conditions (attributes_forest attributes.now)) }
-{
-    let mut seen = false;
-    for attribute in attributes {
-        if is_condition(&attribute.node) {
-            if seen {
-                return true;
-            }
-            seen = true;
-        }
-    }
-    false
-}
-
-/// Whether an `@elif` or an `@else` may come after a node of these attributes.
-#[tactic(auto, using(wesl_cond_chains::proofs::Places::opens_steps))]
-pub fn opens(attributes: &[AttributeNode]) -> bool
-    ensures { result ≡ opens (conditions (attributes_forest attributes.now)) }
-{
-    for attribute in attributes {
-        match condition_of(&attribute.node) {
-            Some(Condition::If(_) | Condition::Elif(_)) => return true,
-            Some(Condition::Else) | None => {}
-        }
-    }
-    false
-}
-
-/// Whether the first condition, if there is one, is an `@elif` or an `@else`.
-fn follows_on(attributes: &[AttributeNode]) -> bool
-    ensures { result ≡ follows_on (first_condition (attributes_forest attributes.now)) }
-{
-    for attribute in attributes {
-        match condition_of(&attribute.node) {
-            Some(Condition::If(_)) => return false,
-            Some(Condition::Elif(_) | Condition::Else) => return true,
-            None => {}
-        }
-    }
-    false
-}
-
-/// Whether the first condition goes on with a chain, and none is open.
-fn is_orphan(attributes: &[AttributeNode], opened: bool) -> bool
-    ensures { result ≡ not opened && follows_on (first_condition (attributes_forest attributes.now)) }
-{
-    !opened && follows_on(attributes)
 }
 
 /// The span of the condition that is at fault among the attributes: of the second, or of the only one.
@@ -110,7 +54,7 @@ pub fn place_of(own: Span, attributes: &[AttributeNode]) -> Span
 /// `@else` goes on with a chain that is open. `span` is the place that is told.
 #[tactic(auto, using(wesl_cond_chains::proofs::Places::place_is))]
 pub fn tell_place(told: &mut Told, attributes: &[AttributeNode], opened: bool, span: Span)
-    ensures { (names : List Text) → AddsFaults names (map (found_at span) (place_faults opened (conditions (attributes_forest attributes.now)))) told.old told.new }
+    ensures { AddsMisplaced span opened attributes.now told.old told.new }
 {
     if has_several(attributes) {
         told.tell(CondCompError::DuplicateIf, span);
@@ -121,7 +65,7 @@ pub fn tell_place(told: &mut Told, attributes: &[AttributeNode], opened: bool, s
 
 /// Tells the faults of the formula of an attribute, if it has one that is a condition's.
 fn tell_attribute(told: &mut Told, attribute: &Attribute, names: &Names, features: &Features)
-    ensures { AddsFaults names.now (condition_places (replies names.now features.now) (condition_of_attribute attribute.now)) told.old told.new }
+    ensures { AddsFound names.now features.now (λ r. condition_places r (condition_of_attribute attribute.now)) told.old told.new }
 {
     match condition_of(attribute) {
         Some(Condition::If(formula) | Condition::Elif(formula)) => {
@@ -138,7 +82,7 @@ pub fn tell_formulas(
     names: &Names,
     features: &Features,
 )
-    ensures { AddsFaults names.now (all_condition_places (replies names.now features.now) (attributes_forest attributes.now)) told.old told.new }
+    ensures { AddsFound names.now features.now (λ r. all_condition_places r (attributes_forest attributes.now)) told.old told.new }
 {
     for attribute in attributes {
         tell_attribute(told, &attribute.node, names, features);

@@ -1,7 +1,7 @@
 //! All faults of conditions in imports, directives and declarations. Nodes that do not stay are not entered, and neither are
 //! those of a list that has a fault.
-ghost use Rattle.wesl_cond_faults.specs.Telling.{AddsUnder, what_stays};
-ghost use Rattle.wesl_tree_syntax.specs.Tree.{before, declaration_node, end};
+ghost use Rattle.wesl_cond_faults.specs.Telling.{AddsInside, AddsStaying};
+ghost use Rattle.wesl_tree_syntax.specs.Tree.{declaration_node};
 ghost use Rattle.wesl_tree_syntax.specs.View.{declarations_tree, global_view, placed};
 
 use crate::lists::{is_clear, tell_list};
@@ -19,7 +19,7 @@ pub fn tell_declarations(
     names: &Names,
     features: &Features,
 )
-    ensures { AddsUnder names.now features.now (before (declarations_tree declarations.now) end) told.old told.new }
+    ensures { AddsInside names.now features.now (declarations_tree declarations.now) told.old told.new }
 {
     if is_clear(check_list(told.alloc, declarations, names, features)) {
         tell_in_declarations(told, declarations, names, features);
@@ -35,7 +35,7 @@ fn tell_in_declarations(
     names: &Names,
     features: &Features,
 )
-    ensures { AddsUnder names.now features.now (what_stays names.now features.now (placed global_view declaration_node) declarations.now.items) told.old told.new }
+    ensures { AddsStaying names.now features.now (placed global_view declaration_node) declarations.now.items told.old told.new }
 {
     let mut chain = Chain::new();
     for node in declarations {
@@ -47,7 +47,7 @@ fn tell_in_declarations(
 
 /// Tells the faults of conditions in a declaration.
 fn tell_global(told: &mut Told, declaration: &GlobalDeclaration, names: &Names, features: &Features)
-    ensures { AddsUnder names.now features.now (before (global_view declaration.now) end) told.old told.new }
+    ensures { AddsInside names.now features.now (global_view declaration.now) told.old told.new }
 {
     match declaration {
         GlobalDeclaration::Struct(structure) => {

@@ -1,7 +1,6 @@
 //! The faults of a formula.
-ghost use Rattle.wesl_cond_chains.specs.Nodes.{replies};
 ghost use Rattle.wesl_cond_chains.specs.Places.{formula_places};
-ghost use Rattle.wesl_cond_faults.specs.Telling.{AddsFaults};
+ghost use Rattle.wesl_cond_faults.specs.Telling.{AddsFound};
 ghost use Rattle.wesl_cond_chains.specs.Step.{form_of, name_form};
 
 use crate::told::Told;
@@ -14,7 +13,7 @@ use wesl_tree_syntax::{
 
 /// Tells what is wrong with a name that stands for a flag. `span` is the place of its expression.
 fn tell_flag(told: &mut Told, ty: &TypeExpression, span: Span, names: &Names, features: &Features)
-    ensures { AddsFaults names.now (formula_places (replies names.now features.now) span (name_form ty.now)) told.old told.new }
+    ensures { AddsFound names.now features.now (λ r. formula_places r span (name_form ty.now)) told.old told.new }
 {
     let name = name_of(names, ty.ident);
     if ty.template_args.is_some() {
@@ -30,7 +29,7 @@ fn tell_flag(told: &mut Told, ty: &TypeExpression, span: Span, names: &Names, fe
 /// Tells the faults of a formula, those of both sides of `&&` and `||`, each at the place of the expression at fault.
 #[cycle(telling)]
 pub fn tell_formula(told: &mut Told, formula: &ExpressionNode, names: &Names, features: &Features)
-    ensures { AddsFaults names.now (formula_places (replies names.now features.now) formula.now.span (form_of formula.now.node)) told.old told.new }
+    ensures { AddsFound names.now features.now (λ r. formula_places r formula.now.span (form_of formula.now.node)) told.old told.new }
 {
     match &formula.node {
         Expression::Literal(Literal::Bool(true)) => {}

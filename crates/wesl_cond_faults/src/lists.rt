@@ -1,13 +1,12 @@
 //! The faults of the conditions of a list.
 ghost use Rattle.std.specs.Prelude.{◌≡◌, Bool, false, is_ok};
-ghost use Rattle.wesl_cond_chains.specs.Nodes.{as_element, replies, closed_nodes, nodes_in};
+ghost use Rattle.wesl_cond_chains.specs.Nodes.{as_element, closed_nodes, nodes_in};
 ghost use Rattle.wesl_cond_chains.specs.Places.{opened_after, opened_through};
-ghost use Rattle.wesl_cond_faults.specs.Places.{told_of_list, told_of_node};
-ghost use Rattle.wesl_cond_faults.specs.Telling.{AddsFaults};
+ghost use Rattle.wesl_cond_faults.specs.Telling.{AddsList, AddsNode};
 
-use crate::attributes::{opens, place_of, tell_formulas, tell_place};
+use crate::attributes::{place_of, tell_formulas, tell_place};
 use crate::told::Told;
-use wesl_cond_chains::Conditional;
+use wesl_cond_chains::{Conditional, opens};
 use wesl_cond_features::Features;
 use wesl_tree_names::{Diagnostic, Names};
 
@@ -19,7 +18,7 @@ fn tell_node<T: Conditional>(
     names: &Names,
     features: &Features,
 ) -> bool
-    ensures told { (closes : Bool) → AddsFaults names.now (told_of_node (replies names.now features.now) opened (as_element closes (T.tree node.now))) told.old told.new }
+    ensures told { AddsNode names.now features.now opened (T.tree node.now) told.old told.new }
     ensures opened { (closes : Bool) → result ≡ opened_after opened (as_element closes (T.tree node.now)) }
 {
     if node.is_void() {
@@ -40,7 +39,7 @@ fn tell_nodes<T: Conditional>(
     names: &Names,
     features: &Features,
 ) -> bool
-    ensures told { AddsFaults names.now (told_of_list (replies names.now features.now) false (nodes_in T.tree nodes.now.items)) told.old told.new }
+    ensures told { AddsList names.now features.now (nodes_in T.tree nodes.now.items) told.old told.new }
     ensures opened { result ≡ opened_through false (nodes_in T.tree nodes.now.items) }
 {
     let mut opened = false;
@@ -64,7 +63,7 @@ pub fn tell_list<T: Conditional>(
     names: &Names,
     features: &Features,
 )
-    ensures { AddsFaults names.now (told_of_list (replies names.now features.now) false (nodes_in T.tree nodes.now.items)) told.old told.new }
+    ensures { AddsList names.now features.now (nodes_in T.tree nodes.now.items) told.old told.new }
 {
     let _ = tell_nodes(told, nodes, names, features);
 }
@@ -77,7 +76,7 @@ pub fn tell_both<T: Conditional, L: Conditional>(
     names: &Names,
     features: &Features,
 )
-    ensures { AddsFaults names.now (told_of_list (replies names.now features.now) false (closed_nodes T.tree nodes.now.items L.tree last.now)) told.old told.new }
+    ensures { AddsList names.now features.now (closed_nodes T.tree nodes.now.items L.tree last.now) told.old told.new }
 {
     let opened = tell_nodes(told, nodes, names, features);
     match last {

@@ -3,8 +3,8 @@
 ghost use Rattle.std.specs.Prelude.{cond, map};
 ghost use Rattle.std.specs.Box.{box_value};
 ghost use Rattle.wesl_cond_chains.specs.Nodes.{optional_forest};
-ghost use Rattle.wesl_cond_faults.specs.Telling.{AddsUnder, what_stays};
-ghost use Rattle.wesl_tree_syntax.specs.Tree.{before, branch, clauses as clauses_kind, end, forest_of};
+ghost use Rattle.wesl_cond_faults.specs.Telling.{AddsInside, AddsStaying, AddsUnder};
+ghost use Rattle.wesl_tree_syntax.specs.Tree.{branch, clauses as clauses_kind, end, forest_of};
 ghost use Rattle.wesl_tree_syntax.specs.View.{clause_view, compound_view, continuing_view, else_if_view, else_view, optional, statement_tree, statement_view};
 
 use crate::lists::{is_clear, tell_both, tell_list};
@@ -20,7 +20,7 @@ use wesl_tree_syntax::{
 /// Tells the faults of conditions in a statement.
 #[cycle(telling)]
 fn tell_statement(told: &mut Told, statement: &Statement, names: &Names, features: &Features)
-    ensures { AddsUnder names.now features.now (before (statement_view statement.now) end) told.old told.new }
+    ensures { AddsInside names.now features.now (statement_view statement.now) told.old told.new }
 {
     match statement {
         Statement::Compound(body) => tell_body(told, body, names, features),
@@ -68,7 +68,7 @@ fn tell_statement(told: &mut Told, statement: &Statement, names: &Names, feature
 /// Tells the faults of conditions in the statements of a list that stay.
 #[cycle(telling)]
 fn tell_statements(told: &mut Told, nodes: &Vec<StatementNode>, names: &Names, features: &Features)
-    ensures { AddsUnder names.now features.now (what_stays names.now features.now statement_tree nodes.now.items) told.old told.new }
+    ensures { AddsStaying names.now features.now statement_tree nodes.now.items told.old told.new }
 {
     let mut chain = Chain::new();
     for node in nodes {
@@ -81,7 +81,7 @@ fn tell_statements(told: &mut Told, nodes: &Vec<StatementNode>, names: &Names, f
 /// Tells the faults of conditions in a body.
 #[cycle(telling)]
 pub fn tell_body(told: &mut Told, body: &CompoundStatement, names: &Names, features: &Features)
-    ensures { AddsUnder names.now features.now (before (compound_view body.now) end) told.old told.new }
+    ensures { AddsInside names.now features.now (compound_view body.now) told.old told.new }
 {
     if is_clear(check_list(told.alloc, &body.statements, names, features)) {
         tell_statements(told, &body.statements, names, features);
@@ -103,7 +103,7 @@ fn tell_else_ifs(told: &mut Told, clauses: &Vec<ElseIfClause>, names: &Names, fe
 /// Tells the faults of conditions in the body of an `else`, if there is one.
 #[cycle(telling)]
 fn tell_else(told: &mut Told, clause: &Option<ElseClause>, names: &Names, features: &Features)
-    ensures { AddsUnder names.now features.now (before (optional else_view clause.now) end) told.old told.new }
+    ensures { AddsInside names.now features.now (optional else_view clause.now) told.old told.new }
 {
     match clause {
         Some(clause) => tell_body(told, &clause.body, names, features),
@@ -114,7 +114,7 @@ fn tell_else(told: &mut Told, clause: &Option<ElseClause>, names: &Names, featur
 /// Tells the faults of the conditions of clauses, or those in the clauses that stay.
 #[cycle(telling)]
 fn tell_clauses(told: &mut Told, clauses: &Vec<SwitchClause>, names: &Names, features: &Features)
-    ensures { AddsUnder names.now features.now (before (branch clauses_kind (map clause_view clauses.now.items)) end) told.old told.new }
+    ensures { AddsInside names.now features.now (branch clauses_kind (map clause_view clauses.now.items)) told.old told.new }
 {
     match check_list(told.alloc, clauses, names, features) {
         Ok(()) => {}
@@ -136,7 +136,7 @@ fn tell_optional(
     names: &Names,
     features: &Features,
 )
-    ensures { AddsUnder names.now features.now (before (optional (λ s. statement_tree (box_value s)) node.now) end) told.old told.new }
+    ensures { AddsInside names.now features.now (optional (λ s. statement_tree (box_value s)) node.now) told.old told.new }
 {
     match node {
         Some(node) => tell_statement(told, &node.node, names, features),
@@ -165,7 +165,7 @@ fn tell_last(
 /// Tells the faults of conditions in a continuing block. No list lies in its `break if`.
 #[cycle(telling)]
 fn tell_block(told: &mut Told, block: &ContinuingStatement, names: &Names, features: &Features)
-    ensures { AddsUnder names.now features.now (before (continuing_view block.now) end) told.old told.new }
+    ensures { AddsInside names.now features.now (continuing_view block.now) told.old told.new }
 {
     let statements = &block.body.statements;
     if is_clear(check_both(told.alloc, statements, &block.break_if, names, features)) {

@@ -17,10 +17,8 @@ pub struct Told {
 impl Told {
     ghost use Rattle.std.specs.Prelude.{◌≡◌, ◌++◌, [], ◌∷◌, ℕ, List, false};
     ghost use Rattle.wesl_cond_chains.specs.FormulaFaults.{Fault, Tells, invalid_flag, unexpected_flag};
-    ghost use Rattle.wesl_cond_chains.specs.Places.{found_at};
-    ghost use Rattle.wesl_cond_faults.specs.Telling.{AddsFaults, IsTold};
+    ghost use Rattle.wesl_cond_faults.specs.Telling.{AddsFault, AddsFlag, IsTold};
     ghost use Rattle.wesl_tree_names.specs.Path.{Text};
-    ghost use Rattle.wesl_tree_syntax.specs.Unit.{name_in};
 
     /// Nothing yet.
     pub fn new(alloc: Global) -> Told
@@ -43,7 +41,7 @@ impl Told {
 
     /// Tells a fault at a place.
     pub fn tell(&mut self, fault: CondCompError, span: Span)
-        ensures { (names : List Text) → (f : Fault ℕ) → Tells names (Error.CondComp fault) f → AddsFaults names (found_at span f ∷ []) self.old self.new }
+        ensures { (names : List Text) → (f : Fault ℕ) → Tells names (Error.CondComp fault) f → AddsFault names span f self.old self.new }
     {
         let told = Diagnostic::at(Error::CondComp(fault), span);
         self.push(told);
@@ -51,7 +49,7 @@ impl Told {
 
     /// Tells a flag with template arguments.
     pub fn tell_invalid(&mut self, name: &str, span: Span)
-        ensures { (names : List Text) → (number : ℕ) → name_in names number ≡ name.now → AddsFaults names (found_at span (invalid_flag number) ∷ []) self.old self.new }
+        ensures { AddsFlag invalid_flag name.now span self.old self.new }
     {
         match String::from_str(self.alloc, name) {
             Ok(name) => self.tell(CondCompError::InvalidFeatureFlag(name), span),
@@ -61,7 +59,7 @@ impl Told {
 
     /// Tells a flag that is answered by a refusal.
     pub fn tell_unexpected(&mut self, name: &str, span: Span)
-        ensures { (names : List Text) → (number : ℕ) → name_in names number ≡ name.now → AddsFaults names (found_at span (unexpected_flag number) ∷ []) self.old self.new }
+        ensures { AddsFlag unexpected_flag name.now span self.old self.new }
     {
         match String::from_str(self.alloc, name) {
             Ok(name) => self.tell(CondCompError::UnexpectedFeatureFlag(name), span),

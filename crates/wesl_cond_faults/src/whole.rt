@@ -1,8 +1,7 @@
 //! All faults of the conditions of a module.
 ghost use Rattle.std.specs.Prelude.{◌≡◌, ◌↔◌, [], IfOk, IfErr};
-ghost use Rattle.wesl_cond_chains.specs.Laws.{IsFaultless};
-ghost use Rattle.wesl_cond_faults.specs.Telling.{TellsUnit, AddsUnder};
-ghost use Rattle.wesl_cond_features.specs.Features.{answer_to, by_number};
+ghost use Rattle.wesl_cond_faults.specs.Telling.{AddsUnder, HasNoFault, TellsUnit};
+ghost use Rattle.wesl_cond_features.specs.Features.{answer_to};
 ghost use Rattle.wesl_tree_names.specs.declared.errors.Error as error;
 ghost use Rattle.wesl_tree_syntax.specs.Unit.{forest_of_unit, trees_of};
 ghost use Rattle.wesl_tree.specs.Translation.{unit_view};
@@ -49,7 +48,7 @@ pub fn faults(
     features: &Features,
 ) -> Result<Vec<Diagnostic>, Error>
     ensures told { IfOk result (λ told. TellsUnit (answer_to features.now) (unit_view unit.now) told.items) }
-    ensures none { IfOk result (λ told. (told.items ≡ []) ↔ IsFaultless (by_number (unit_view unit.now).names (answer_to features.now)) (trees_of (unit_view unit.now))) }
+    ensures none { IfOk result (λ told. (told.items ≡ []) ↔ HasNoFault (answer_to features.now) (unit_view unit.now)) }
     ensures refused { IfErr result (λ e. e ≡ error.Memory) }
 {
     let mut told = Told::new(alloc);
