@@ -867,6 +867,13 @@ def free_and_clashing():
         ],
         mangler="none",
     ))
+    yield Shape("words that a local captures which is declared again", 300, lambda count: bundle(
+        module("package::main", declarations=[function(
+            "k",
+            *[{"k": "let", "name": "function", "init": True}] * count,
+            *({"k": "var", "name": name, "space": "function", "init": True} for name in number("x", count)),
+        )]),
+    ))
 
 
 def refused_names():

@@ -22,6 +22,6 @@ word k = k.word
 abbrev pub TellsNames : UnitView → Clashes → Type 0
 TellsNames u c = map printed c.names.items ≡ map name (clashes u)
 
--- the words that are told are just those that declarations capture, by the variables and then by the declarations
+-- the words that are told are just those that declarations capture, by the variables and then as each says them
 abbrev pub TellsWords : UnitView → Clashes → Type 0
 TellsWords u c = map printed c.words.items ≡ map word (word_clashes u)

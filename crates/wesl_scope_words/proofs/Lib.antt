@@ -4,7 +4,8 @@ pub mod Attributes
 pub mod Steps
 pub mod Declared
 pub mod Freedom
+pub mod Innermost
 pub mod Counted
-pub mod Within
-pub mod Kept
+pub mod Places
+pub mod Reading
 pub mod Complete

@@ -2,15 +2,14 @@
 use Rattle.std.specs.Prelude.{◌≡◌, ◌↔◌, ℕ, None, [], map}
 use Rattle.std.specs.List.{All}
 use Rattle.wesl_tree_names.specs.Path.{Text}
-use Rattle.wesl_tree_syntax.specs.Unit.{UnitView, UnitOf, forest_of_unit, trees_of, spelled}
-use Rattle.wesl_scope_occurrences.specs.Occurrences.{Occurrence, occurrences}
-use Rattle.wesl_scope_open.specs.Scopes.{binder_of}
+use Rattle.wesl_tree_syntax.specs.Unit.{UnitView, UnitOf, forest_of_unit, trees_of}
+use Rattle.wesl_scope_occurrences.specs.Occurrences.{Occurrence}
 use Rattle.wesl_scope_words.specs.Said.{said_of}
-use Rattle.wesl_scope_words.specs.Captured.{spoken, word_clashes}
+use Rattle.wesl_scope_words.specs.Captured.{read_as, spoken, word_clashes}
 
 -- the word w, read as a name where v stands, means no declaration of the module
 abbrev pub IsFreeAt : UnitView → Occurrence ℕ → Text → Type 0
-IsFreeAt u v w = binder_of (occurrences (spelled u)) w v.place v.block ≡ None
+IsFreeAt u v w = read_as u v w ≡ None
 
 -- so do all words that variables say
 abbrev pub AreWordsFree : UnitView → Type 0

@@ -3,3 +3,4 @@ pub mod Captured
 pub mod Adds
 pub mod Finding
 pub mod Free
+pub mod Innermost

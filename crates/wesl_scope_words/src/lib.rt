@@ -3,10 +3,10 @@
 #![tactic(auto)]
 
 mod binders;
-mod blocks;
 mod clash;
 mod declarations;
 mod laws;
+mod rivals;
 mod sayings;
 mod statements;
 mod whole;

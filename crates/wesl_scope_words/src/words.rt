@@ -2,13 +2,12 @@
 ghost use Rattle.std.specs.Prelude.{◌≡◌, bytes_eq};
 ghost use Rattle.std.specs.List.{list_any};
 ghost use Rattle.wesl_text_form.specs.Operators.{access_word, space_word};
-ghost use Rattle.wesl_scope_words.specs.Said.{every_mode, every_space, every_word, memory_words};
+ghost use Rattle.wesl_scope_words.specs.Said.{every_mode, every_space, every_word};
 
-use crate::sayings::Memory;
 use wesl_tree::{AccessMode, AddressSpace};
 
 /// The word of an address space.
-fn space_word(space: AddressSpace) -> &'static str
+pub fn space_word(space: AddressSpace) -> &'static str
     ensures { result.now ≡ space_word space }
 {
     match space {
@@ -22,24 +21,13 @@ fn space_word(space: AddressSpace) -> &'static str
 }
 
 /// The word of an access mode.
-fn access_word(mode: AccessMode) -> &'static str
+pub fn access_word(mode: AccessMode) -> &'static str
     ensures { result.now ≡ access_word mode }
 {
     match mode {
         AccessMode::Read => "read",
         AccessMode::Write => "write",
         AccessMode::ReadWrite => "read_write",
-    }
-}
-
-/// Whether a name is spelled as one of the words that are said.
-pub fn says(memory: Memory, name: &str) -> bool
-    ensures { result ≡ list_any (bytes_eq name.now) (memory_words memory) }
-{
-    match memory {
-        None => false,
-        Some((space, None)) => name == space_word(space),
-        Some((space, Some(mode))) => name == space_word(space) || name == access_word(mode),
     }
 }
 

@@ -1,58 +1,43 @@
-use Rattle.std.proofs.Common.{◌≡◌, ◌∙◌, length, map, ap, ap₂, refl, sym}
+use Rattle.std.proofs.Common.{◌≡◌, ◌<◌, ◌∙◌, length, map, ap, sym}
 use Rattle.std.specs.List.{filter}
+use Rattle.std.proofs.lemmas.List.Elements.{All-filter}
 use Rattle.wesl_tree.specs.Translation.{unit_view}
 use Rattle.wesl_scope_words.specs.Captured.{clash_view, word_clashes}
-use Rattle.wesl_scope_words.specs.Finding.{IsKnown, declares, is_rival}
+use Rattle.wesl_scope_words.specs.Finding.{FindsAs, IsKnown, declares, look, of_names}
 use Rattle.wesl_scope_words.proofs.Complete.{as_many_said, known_all, known_at, none_viewed, told_module, told_where}
-use Rattle.wesl_scope_words.proofs.Kept.{all_kept}
 use Rattle.wesl_scope_words.proofs.whole.word_clashes.Goals as goal
 
-pub rivals-requires : goal.rivals-requires
-rivals-requires c =
-    let names = (unit_view c.args.unit.now).names in
-    let all = c.in_ok-found.found.all.items in
-    let outer = c.in_ok-found.found.outer.items in
-    let known = all_kept (IsKnown names outer) declares all (known_all names outer all c.in_ok-found.ensures.names c.in_ok-found.ensures.blocks) in
-    λ k d l. (known_at c.names.result.now names outer outer c.deref-2.result.now (filter declares all) c.names.ensures.names refl (c.deref-2.ensures.value ∙ (c.in_ok-variables.ensures ∙ ap (filter declares) c.deref.ensures.value)) known k d l).0
-
-pub all_captured-requires-clause-rivals : goal.all_captured-requires-clause-rivals
-all_captured-requires-clause-rivals c =
+pub all_told-requires-clause-variables : goal.all_told-requires-clause-variables
+all_told-requires-clause-variables c =
     let names = (unit_view c.args.unit.now).names in
     let all = c.in_ok-found.found.all.items in
     let outer = c.in_ok-found.found.outer.items in
     let found = c.in_ok-variables.ensures ∙ ap (filter declares) c.deref.ensures.value in
-    let known = all_kept (IsKnown names outer) (is_rival names) (filter declares all) (all_kept (IsKnown names outer) declares all (known_all names outer all c.in_ok-found.ensures.names c.in_ok-found.ensures.blocks)) in
-    known_at c.names-2.result.now names c.deref-3.result.now outer c.deref-4.result.now (filter (is_rival names) (filter declares all)) c.names-2.ensures.names c.deref-3.ensures.value
-    (c.deref-4.ensures.value ∙ (c.in_ok-rivals.ensures ∙ ap₂ (λ n vs. filter (is_rival n) vs) c.names.ensures.names (c.deref-2.ensures.value ∙ found))) known
+    let known = All-filter declares (IsKnown names outer) all (known_all names outer all c.in_ok-found.ensures.names c.in_ok-found.ensures.blocks) in
+    known_at c.names-names.result.now names c.deref-3.result.now outer c.deref-5.result.now (filter declares all) c.names-names.ensures.names c.deref-3.ensures.value (c.deref-5.ensures.value ∙ found) known
 
-pub all_captured-requires-clause-variables : goal.all_captured-requires-clause-variables
-all_captured-requires-clause-variables c =
-    let names = (unit_view c.args.unit.now).names in
-    let all = c.in_ok-found.found.all.items in
-    let outer = c.in_ok-found.found.outer.items in
-    let found = c.in_ok-variables.ensures ∙ ap (filter declares) c.deref.ensures.value in
-    let known = all_kept (IsKnown names outer) declares all (known_all names outer all c.in_ok-found.ensures.names c.in_ok-found.ensures.blocks) in
-    known_at c.names-2.result.now names c.deref-3.result.now outer c.deref-6.result.now (filter declares all) c.names-2.ensures.names c.deref-3.ensures.value (c.deref-6.ensures.value ∙ found) known
-
-pub all_captured-requires-clause-same_length : goal.all_captured-requires-clause-same_length
-all_captured-requires-clause-same_length c =
+pub all_told-requires-clause-same_length : goal.all_told-requires-clause-same_length
+all_told-requires-clause-same_length c =
     let u = unit_view c.args.unit.now in
     let found = c.in_ok-variables.ensures ∙ ap (filter declares) c.deref.ensures.value in
-    ap length c.deref-5.ensures.value
+    ap length c.deref-4.ensures.value
     ∙ (as_many_said u c.in_ok-found.found.outer.items c.in_ok-found.found.all.items c.in_ok-said.said.items c.in_ok-found.ensures.all c.in_ok-said.ensures
-    ∙ sym (ap length (c.deref-6.ensures.value ∙ found)))
+    ∙ sym (ap length (c.deref-5.ensures.value ∙ found)))
 
 pub returns-clause-clashes : goal.returns-clause-clashes
 returns-clause-clashes c =
     let u = unit_view c.args.unit.now in
     let all = c.in_ok-found.found.all.items in
     let outer = c.in_ok-found.found.outer.items in
+    let said = c.in_ok-said.said.items in
+    let f = look c.in_ok-rivals.rivals in
     let found = c.in_ok-variables.ensures ∙ ap (filter declares) c.deref.ensures.value in
+    let declared = All-filter declares (λ o. o.block < length outer) all c.in_ok-found.ensures.blocks in
+    let finds : FindsAs f (of_names u.names all) = λ b w p. c.in_ok-rivals.ensures b w p ∙ (ap (λ ns. of_names ns c.deref-2.result.now b w p) c.names-names.ensures.names ∙ ap (λ os. of_names u.names os b w p) c.deref-2.ensures.value) in
     c.in_ok-told.ensures
-    ∙ (told_where c.names-2.result.now u.names c.deref-3.result.now outer c.deref-4.result.now (filter (is_rival u.names) (filter declares all)) c.deref-5.result.now c.in_ok-said.said.items c.deref-6.result.now (filter declares all)
-    c.names-2.ensures.names c.deref-3.ensures.value (c.deref-4.ensures.value ∙ (c.in_ok-rivals.ensures ∙ ap₂ (λ n vs. filter (is_rival n) vs) c.names.ensures.names (c.deref-2.ensures.value ∙ found)))
-    c.deref-5.ensures.value (c.deref-6.ensures.value ∙ found)
-    ∙ told_module u outer all c.in_ok-said.said.items c.in_ok-found.ensures.all c.in_ok-said.ensures)
+    ∙ (told_where c.names-names.result.now u.names c.deref-3.result.now outer f c.deref-4.result.now said c.deref-5.result.now (filter declares all)
+    c.names-names.ensures.names c.deref-3.ensures.value c.deref-4.ensures.value (c.deref-5.ensures.value ∙ found)
+    ∙ told_module u outer all said c.in_ok-found.ensures.all c.in_ok-said.ensures c.in_ok-found.ensures.nested c.in_ok-found.ensures.blocks declared f finds)
 
 pub returns-clause-none : goal.returns-clause-none
 returns-clause-none c =
