@@ -1,12 +1,10 @@
 //! Printing attributes.
-ghost use Rattle.std.specs.Prelude.{codes};
-ghost use Rattle.serde_json.specs.Data.{array, no_members, string};
-ghost use Rattle.wesl_json_form.specs.Schema.{an_attribute};
+ghost use Rattle.serde_json.specs.Data.{array, string};
 ghost use Rattle.wesl_json_form.specs.Writing.{texts_value};
-ghost use Rattle.wesl_json_print_nodes.specs.Printing.{Prints, PrintsList, at_place, custom_tree, diagnosed};
-ghost use Rattle.wesl_json_words.specs.Values.{attribute_at, attribute_in, expression_data, items_in, with_list, with_member, workgroup_size, worded};
-ghost use Rattle.wesl_tree_syntax.specs.Tree.{attribute_node};
-ghost use Rattle.wesl_tree_syntax.specs.View.{attribute_view, attributes_tree, expression_tree, optional, texts_of};
+ghost use Rattle.wesl_json_print_nodes.specs.Lists.{attribute_items};
+ghost use Rattle.wesl_json_print_nodes.specs.Printing.{Prints, PrintsAttribute, PrintsList, custom_tree, diagnosed, interpolated, named, sized, with_operand};
+ghost use Rattle.wesl_json_words.specs.Values.{attribute_at, attribute_in};
+ghost use Rattle.wesl_tree_syntax.specs.View.{attribute_view, texts_of};
 
 use crate::expression::{print_expression_at, print_expressions, print_optional_expression};
 use crate::printer::Printer;
@@ -23,7 +21,7 @@ pub fn print_attributes<S: Sink>(
     key: &str,
     attributes: &Attributes,
 )
-    ensures { PrintsList S.after out.old out.new key.now (items_in spans names.now an_attribute (attributes_tree attributes.now).children) }
+    ensures { PrintsList S.after out.old out.new key.now (attribute_items spans names.now attributes.now) }
 {
     if !attributes.is_empty() {
         out.key(key);
@@ -33,7 +31,7 @@ pub fn print_attributes<S: Sink>(
 
 // Prints attributes as a list.
 fn print_each<S: Sink>(out: &mut Printer<S>, spans: bool, names: &Names, attributes: &Attributes)
-    ensures { Prints S.after out.old out.new (array (items_in spans names.now an_attribute (attributes_tree attributes.now).children)) }
+    ensures { Prints S.after out.old out.new (array (attribute_items spans names.now attributes.now)) }
 {
     out.begin_list();
     for attribute in attributes {
@@ -95,7 +93,7 @@ fn print_operand<S: Sink>(
     operand: &ExpressionNode,
     span: Span,
 )
-    ensures { Prints S.after out.old out.new (at_place spans attribute_node span (worded word.now (with_member (codes "expr") (expression_data spans names.now operand.now) no_members))) }
+    ensures { PrintsAttribute S.after out.old out.new spans span (with_operand spans names.now word.now operand.now) }
 {
     out.begin();
     print_expression_at(out, spans, names, "expr", &operand.node, operand.span);
@@ -105,7 +103,7 @@ fn print_operand<S: Sink>(
 }
 
 fn print_named<S: Sink>(out: &mut Printer<S>, spans: bool, word: &str, name: &str, span: Span)
-    ensures { Prints S.after out.old out.new (at_place spans attribute_node span (worded word.now (with_member (codes "name") (string name.now) no_members))) }
+    ensures { PrintsAttribute S.after out.old out.new spans span (named word.now name.now) }
 {
     out.begin();
     out.text_at("k", word);
@@ -116,7 +114,7 @@ fn print_named<S: Sink>(out: &mut Printer<S>, spans: bool, word: &str, name: &st
 
 // Prints an attribute that is a word alone: an object where it has a place.
 fn print_word<S: Sink>(out: &mut Printer<S>, spans: bool, word: &str, span: Span)
-    ensures { Prints S.after out.old out.new (at_place spans attribute_node span (string word.now)) }
+    ensures { PrintsAttribute S.after out.old out.new spans span (string word.now) }
 {
     if is_shown(spans, span) {
         out.begin();
@@ -135,7 +133,7 @@ fn print_diagnostic<S: Sink>(
     rule: &str,
     span: Span,
 )
-    ensures { Prints S.after out.old out.new (at_place spans attribute_node span (diagnosed severity.now rule.now)) }
+    ensures { PrintsAttribute S.after out.old out.new spans span (diagnosed severity.now rule.now) }
 {
     out.begin();
     out.text_at("k", "diagnostic");
@@ -146,7 +144,7 @@ fn print_diagnostic<S: Sink>(
 }
 
 fn print_interpolate<S: Sink>(out: &mut Printer<S>, spans: bool, texts: &Vec<String>, span: Span)
-    ensures { Prints S.after out.old out.new (at_place spans attribute_node span (worded (codes "interpolate") (with_list (codes "names") (texts_value (texts_of texts.now)) no_members))) }
+    ensures { PrintsAttribute S.after out.old out.new spans span (interpolated texts.now) }
 {
     out.begin();
     out.text_at("k", "interpolate");
@@ -184,7 +182,7 @@ fn print_workgroup<S: Sink>(
     z: &Option<ExpressionNode>,
     span: Span,
 )
-    ensures { Prints S.after out.old out.new (at_place spans attribute_node span (workgroup_size spans names.now x.now (optional expression_tree y.now) (optional expression_tree z.now))) }
+    ensures { PrintsAttribute S.after out.old out.new spans span (sized spans names.now x.now y.now z.now) }
 {
     out.begin();
     out.text_at("k", "workgroup_size");
@@ -203,7 +201,7 @@ fn print_custom<S: Sink>(
     arguments: &Option<Vec<ExpressionNode>>,
     span: Span,
 )
-    ensures { Prints S.after out.old out.new (at_place spans attribute_node span (attribute_in spans names.now (custom_tree name.now arguments.now))) }
+    ensures { PrintsAttribute S.after out.old out.new spans span (attribute_in spans names.now (custom_tree name.now arguments.now)) }
 {
     match arguments {
         None => print_named(out, spans, "custom", name, span),

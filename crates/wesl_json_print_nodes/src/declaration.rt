@@ -1,11 +1,12 @@
 //! Printing declarations.
 ghost use Rattle.std.specs.Prelude.{codes};
-ghost use Rattle.serde_json.specs.Data.{array, no_members};
-ghost use Rattle.wesl_json_form.specs.Schema.{a_declaration, a_member, a_parameter, node as node_form};
-ghost use Rattle.wesl_json_print_nodes.specs.Printing.{Prints, PrintsList, PrintsMembers, access_member, mode_member, space_member};
-ghost use Rattle.wesl_json_words.specs.Values.{declaration_at, items_in, placed_at, statement_at, value_in};
-ghost use Rattle.wesl_tree_syntax.specs.Tree.{member_node, members as members_kind, parameters as parameters_kind};
-ghost use Rattle.wesl_tree_syntax.specs.View.{alias_view, assert_view, declaration_view, declarations_tree, function_view, global_view, listed, member_view, parameter_view, placed, struct_view};
+ghost use Rattle.serde_json.specs.Data.{array};
+ghost use Rattle.wesl_json_form.specs.Schema.{a_member, a_parameter};
+ghost use Rattle.wesl_json_print_nodes.specs.Lists.{declaration_items, member_items, parameter_items};
+ghost use Rattle.wesl_json_print_nodes.specs.Printing.{Prints, PrintsList, PrintsMembers, access_member, mode_member, node_in, space_member};
+ghost use Rattle.wesl_json_words.specs.Values.{declaration_at, placed_at, statement_at};
+ghost use Rattle.wesl_tree_syntax.specs.Tree.{member_node};
+ghost use Rattle.wesl_tree_syntax.specs.View.{alias_view, assert_view, declaration_view, function_view, global_view, member_view, parameter_view, struct_view};
 
 use crate::attribute::print_attributes;
 use crate::expression::{
@@ -28,7 +29,7 @@ pub fn print_declarations<S: Sink>(
     names: &Names,
     declarations: &Vec<GlobalDeclarationNode>,
 )
-    ensures { PrintsList S.after out.old out.new (codes "declarations") (items_in spans names.now a_declaration (declarations_tree declarations.now).children) }
+    ensures { PrintsList S.after out.old out.new (codes "declarations") (declaration_items spans names.now declarations.now) }
 {
     if !declarations.is_empty() {
         out.key("declarations");
@@ -42,7 +43,7 @@ fn print_each<S: Sink>(
     names: &Names,
     declarations: &Vec<GlobalDeclarationNode>,
 )
-    ensures { Prints S.after out.old out.new (array (items_in spans names.now a_declaration (declarations_tree declarations.now).children)) }
+    ensures { Prints S.after out.old out.new (array (declaration_items spans names.now declarations.now)) }
 {
     out.begin_list();
     for declaration in declarations {
@@ -174,7 +175,7 @@ fn print_members<S: Sink>(
     names: &Names,
     members: &Vec<StructMemberNode>,
 )
-    ensures { PrintsList S.after out.old out.new (codes "members") (items_in spans names.now a_member (listed (placed member_view member_node) members_kind members.now).children) }
+    ensures { PrintsList S.after out.old out.new (codes "members") (member_items spans names.now members.now) }
 {
     if !members.is_empty() {
         out.key("members");
@@ -188,7 +189,7 @@ fn print_each_member<S: Sink>(
     names: &Names,
     members: &Vec<StructMemberNode>,
 )
-    ensures { Prints S.after out.old out.new (array (items_in spans names.now a_member (listed (placed member_view member_node) members_kind members.now).children)) }
+    ensures { Prints S.after out.old out.new (array (member_items spans names.now members.now)) }
 {
     out.begin_list();
     for member in members {
@@ -241,7 +242,7 @@ fn print_parameters<S: Sink>(
     names: &Names,
     parameters: &Vec<FormalParameter>,
 )
-    ensures { PrintsList S.after out.old out.new (codes "params") (items_in spans names.now a_parameter (listed parameter_view parameters_kind parameters.now).children) }
+    ensures { PrintsList S.after out.old out.new (codes "params") (parameter_items spans names.now parameters.now) }
 {
     if !parameters.is_empty() {
         out.key("params");
@@ -255,7 +256,7 @@ fn print_each_parameter<S: Sink>(
     names: &Names,
     parameters: &Vec<FormalParameter>,
 )
-    ensures { Prints S.after out.old out.new (array (items_in spans names.now a_parameter (listed parameter_view parameters_kind parameters.now).children)) }
+    ensures { Prints S.after out.old out.new (array (parameter_items spans names.now parameters.now)) }
 {
     out.begin_list();
     for parameter in parameters {
@@ -270,7 +271,7 @@ fn print_parameter<S: Sink>(
     names: &Names,
     parameter: &FormalParameter,
 )
-    ensures { Prints S.after out.old out.new (value_in spans names.now (node_form a_parameter) (parameter_view parameter.now)) }
+    ensures { Prints S.after out.old out.new (node_in spans names.now a_parameter (parameter_view parameter.now)) }
 {
     out.begin();
     print_attributes(out, spans, names, "attrs", &parameter.attributes);

@@ -1,11 +1,11 @@
 //! Printing expressions and types.
-ghost use Rattle.std.specs.Prelude.{◌≡◌, [], ◌∷◌, codes};
-ghost use Rattle.serde_json.specs.Data.{array, boolean, no_members, string};
-ghost use Rattle.wesl_json_form.specs.Schema.{a_path, a_template_argument, a_type, an_expression, leaf, node as node_form};
-ghost use Rattle.wesl_json_print_nodes.specs.Printing.{Prints, PrintsList, PrintsMember, PrintsMembers, named_at, plain_type_tree};
-ghost use Rattle.wesl_json_words.specs.Values.{bare, call_members, expression_at, items_in, value_in, with_option};
-ghost use Rattle.wesl_tree_syntax.specs.Tree.{branch, list, literal as literal_kind};
-ghost use Rattle.wesl_tree_syntax.specs.View.{argument_view, boxed_path, call_view, expression_tree, expression_view, listed, literal_tree, optional, type_view};
+ghost use Rattle.std.specs.Prelude.{codes};
+ghost use Rattle.serde_json.specs.Data.{array, boolean, string};
+ghost use Rattle.wesl_json_form.specs.Schema.{a_type, an_expression};
+ghost use Rattle.wesl_json_print_nodes.specs.Lists.{argument_items, expression_items};
+ghost use Rattle.wesl_json_print_nodes.specs.Printing.{Prints, PrintsList, PrintsMember, PrintsMembers, PrintsOption, literal_view, named_at, node_in, path_member, plain_type_tree};
+ghost use Rattle.wesl_json_words.specs.Values.{bare, call_members, expression_at};
+ghost use Rattle.wesl_tree_syntax.specs.View.{call_view, expression_tree, expression_view, type_view};
 
 use crate::printer::Printer;
 use crate::sink::Sink;
@@ -92,7 +92,7 @@ fn print_literal<S: Sink>(
     literal: &Literal,
     span: Span,
 )
-    ensures { Prints S.after out.old out.new (expression_at spans names.now span (branch literal_kind (literal_tree literal.now ∷ []))) }
+    ensures { Prints S.after out.old out.new (expression_at spans names.now span (literal_view literal.now)) }
 {
     match literal {
         Literal::Bool(truth) => print_truth(out, spans, *truth, span),
@@ -144,7 +144,7 @@ pub(crate) fn print_optional_expression<S: Sink>(
     key: &str,
     expression: &Option<ExpressionNode>,
 )
-    ensures { PrintsMembers S.after out.old out.new (with_option key.now spans names.now (node_form an_expression) (optional expression_tree expression.now) no_members) }
+    ensures { PrintsOption S.after out.old out.new key.now spans names.now an_expression expression_tree expression.now }
 {
     match expression {
         Some(expression) => print_expression_at(
@@ -167,7 +167,7 @@ pub(crate) fn print_arguments<S: Sink>(
     names: &Names,
     nodes: &Vec<ExpressionNode>,
 )
-    ensures { PrintsList S.after out.old out.new (codes "args") (items_in spans names.now an_expression (listed expression_tree list nodes.now).children) }
+    ensures { PrintsList S.after out.old out.new (codes "args") (expression_items spans names.now nodes.now) }
 {
     if !nodes.is_empty() {
         out.key("args");
@@ -183,7 +183,7 @@ pub(crate) fn print_expressions<S: Sink>(
     names: &Names,
     nodes: &Vec<ExpressionNode>,
 )
-    ensures { Prints S.after out.old out.new (array (items_in spans names.now an_expression (listed expression_tree list nodes.now).children)) }
+    ensures { Prints S.after out.old out.new (array (expression_items spans names.now nodes.now)) }
 {
     out.begin_list();
     for node in nodes {
@@ -217,7 +217,7 @@ fn print_type<S: Sink>(
     ty: &TypeExpression,
     span: Span,
 )
-    ensures { Prints S.after out.old out.new (named_at spans span (value_in spans names.now (node_form a_type) (type_view ty.now))) }
+    ensures { Prints S.after out.old out.new (named_at spans span (node_in spans names.now a_type (type_view ty.now))) }
 {
     match &ty.template_args {
         None => print_plain_type(out, spans, names, &ty.path, ty.ident, span),
@@ -242,7 +242,7 @@ fn print_plain_type<S: Sink>(
     ident: Ident,
     span: Span,
 )
-    ensures { Prints S.after out.old out.new (named_at spans span (value_in spans names.now (node_form a_type) (plain_type_tree path.now ident))) }
+    ensures { Prints S.after out.old out.new (named_at spans span (node_in spans names.now a_type (plain_type_tree path.now ident))) }
 {
     let name = spelling(names, ident);
     match path {
@@ -281,7 +281,7 @@ pub(crate) fn print_type_at<S: Sink>(
     key: &str,
     ty: &TypeExpression,
 )
-    ensures { PrintsMember S.after out.old out.new key.now (value_in spans names.now (node_form a_type) (type_view ty.now)) }
+    ensures { PrintsMember S.after out.old out.new key.now (node_in spans names.now a_type (type_view ty.now)) }
 {
     out.key(key);
     print_type(out, spans, names, ty, Span { start: 0, end: 0 });
@@ -295,7 +295,7 @@ pub(crate) fn print_optional_type<S: Sink>(
     key: &str,
     ty: &Option<TypeExpression>,
 )
-    ensures { PrintsMembers S.after out.old out.new (with_option key.now spans names.now (node_form a_type) (optional type_view ty.now) no_members) }
+    ensures { PrintsOption S.after out.old out.new key.now spans names.now a_type type_view ty.now }
 {
     match ty {
         Some(ty) => print_type_at(out, spans, names, key, ty),
@@ -310,7 +310,7 @@ fn print_optional_path<S: Sink>(
     names: &Names,
     path: &Option<Box<ModulePath>>,
 )
-    ensures { PrintsMembers S.after out.old out.new (with_option (codes "path") spans names.now (leaf a_path) (optional boxed_path path.now) no_members) }
+    ensures { PrintsMembers S.after out.old out.new (path_member spans names.now path.now) }
 {
     match path {
         Some(path) => {
@@ -329,7 +329,7 @@ fn print_type_arguments<S: Sink>(
     names: &Names,
     arguments: &Vec<TemplateArg>,
 )
-    ensures { Prints S.after out.old out.new (array (items_in spans names.now a_template_argument (listed argument_view list arguments.now).children)) }
+    ensures { Prints S.after out.old out.new (array (argument_items spans names.now arguments.now)) }
 {
     out.begin_list();
     for argument in arguments {

@@ -1,12 +1,12 @@
 //! Printing statements.
 ghost use Rattle.std.specs.Prelude.{[], codes};
-ghost use Rattle.std.specs.Box.{box_value};
-ghost use Rattle.serde_json.specs.Data.{array, no_members};
-ghost use Rattle.wesl_json_form.specs.Schema.{a_body, a_break_if, a_case, a_clause, a_continuing, a_statement, an_elif, an_else, node as node_form};
-ghost use Rattle.wesl_json_print_nodes.specs.Printing.{Prints, PrintsList, PrintsMember, PrintsMembers, at_place, called, returned, stepped};
-ghost use Rattle.wesl_json_words.specs.Values.{assigned, declaration_at, items_in, statement_at, value_in, with_attributes, with_option, worded};
-ghost use Rattle.wesl_tree_syntax.specs.Tree.{assignment, branch, clauses as clauses_kind, list, statement_node, statements as statements_kind, void};
-ghost use Rattle.wesl_tree_syntax.specs.View.{attributes_tree, break_if_view, call_view, clause_view, compound_view, continuing_view, else_if_view, else_view, expression_tree, listed, optional, selector_view, statement_tree, statement_view};
+ghost use Rattle.serde_json.specs.Data.{array};
+ghost use Rattle.wesl_json_form.specs.Schema.{a_body, a_break_if, a_case, a_clause, a_continuing, a_statement, an_elif, an_else};
+ghost use Rattle.wesl_json_print_nodes.specs.Lists.{case_items, clause_items, elif_items, statement_items};
+ghost use Rattle.wesl_json_print_nodes.specs.Printing.{Prints, PrintsList, PrintsMember, PrintsOption, PrintsStatement, assigned_by, boxed_statement, called, jumped, node_in, returned, stepped};
+ghost use Rattle.wesl_json_words.specs.Values.{declaration_at, statement_at};
+ghost use Rattle.wesl_tree_syntax.specs.Tree.{branch, void};
+ghost use Rattle.wesl_tree_syntax.specs.View.{break_if_view, call_view, clause_view, compound_view, continuing_view, else_if_view, else_view, selector_view, statement_view};
 
 use crate::attribute::print_attributes;
 use crate::declaration::{print_assertion, print_declaration};
@@ -183,7 +183,7 @@ fn print_assignment<S: Sink>(
     rhs: &ExpressionNode,
     span: Span,
 )
-    ensures { Prints S.after out.old out.new (at_place spans statement_node span (assigned spans names.now (assignment operator) (attributes_tree attributes.now).children lhs.now rhs.now)) }
+    ensures { PrintsStatement S.after out.old out.new spans span (assigned_by spans names.now operator attributes.now lhs.now rhs.now) }
 {
     out.begin();
     print_attributes(out, spans, names, "attrs", attributes);
@@ -203,7 +203,7 @@ fn print_return<S: Sink>(
     expression: &Option<ExpressionNode>,
     span: Span,
 )
-    ensures { Prints S.after out.old out.new (at_place spans statement_node span (returned spans names.now attributes.now (optional expression_tree expression.now))) }
+    ensures { PrintsStatement S.after out.old out.new spans span (returned spans names.now attributes.now expression.now) }
 {
     out.begin();
     print_attributes(out, spans, names, "attrs", attributes);
@@ -221,7 +221,7 @@ fn print_call_statement<S: Sink>(
     call: &FunctionCall,
     span: Span,
 )
-    ensures { Prints S.after out.old out.new (at_place spans statement_node span (called spans names.now attributes.now (call_view call.now))) }
+    ensures { PrintsStatement S.after out.old out.new spans span (called spans names.now attributes.now (call_view call.now)) }
 {
     out.begin();
     print_attributes(out, spans, names, "attrs", attributes);
@@ -241,7 +241,7 @@ fn print_step<S: Sink>(
     expression: &ExpressionNode,
     span: Span,
 )
-    ensures { Prints S.after out.old out.new (at_place spans statement_node span (stepped spans names.now word.now attributes.now expression.now)) }
+    ensures { PrintsStatement S.after out.old out.new spans span (stepped spans names.now word.now attributes.now expression.now) }
 {
     out.begin();
     print_attributes(out, spans, names, "attrs", attributes);
@@ -260,7 +260,7 @@ fn print_jump<S: Sink>(
     attributes: &Attributes,
     span: Span,
 )
-    ensures { Prints S.after out.old out.new (at_place spans statement_node span (worded word.now (with_attributes spans names.now attributes.now no_members))) }
+    ensures { PrintsStatement S.after out.old out.new spans span (jumped spans names.now word.now attributes.now) }
 {
     out.begin();
     print_attributes(out, spans, names, "attrs", attributes);
@@ -277,7 +277,7 @@ pub(crate) fn print_body_at<S: Sink>(
     names: &Names,
     body: &CompoundStatement,
 )
-    ensures { PrintsMember S.after out.old out.new (codes "body") (value_in spans names.now (node_form a_body) (compound_view body.now)) }
+    ensures { PrintsMember S.after out.old out.new (codes "body") (node_in spans names.now a_body (compound_view body.now)) }
 {
     out.key("body");
     out.begin();
@@ -294,7 +294,7 @@ fn print_statements<S: Sink>(
     names: &Names,
     nodes: &Vec<StatementNode>,
 )
-    ensures { PrintsList S.after out.old out.new (codes "stmts") (items_in spans names.now a_statement (listed statement_tree statements_kind nodes.now).children) }
+    ensures { PrintsList S.after out.old out.new (codes "stmts") (statement_items spans names.now nodes.now) }
 {
     if !nodes.is_empty() {
         out.key("stmts");
@@ -309,7 +309,7 @@ fn print_each_statement<S: Sink>(
     names: &Names,
     nodes: &Vec<StatementNode>,
 )
-    ensures { Prints S.after out.old out.new (array (items_in spans names.now a_statement (listed statement_tree statements_kind nodes.now).children)) }
+    ensures { Prints S.after out.old out.new (array (statement_items spans names.now nodes.now)) }
 {
     out.begin_list();
     for node in nodes {
@@ -325,7 +325,7 @@ fn print_elifs<S: Sink>(
     names: &Names,
     clauses: &Vec<ElseIfClause>,
 )
-    ensures { PrintsList S.after out.old out.new (codes "elifs") (items_in spans names.now an_elif (listed else_if_view list clauses.now).children) }
+    ensures { PrintsList S.after out.old out.new (codes "elifs") (elif_items spans names.now clauses.now) }
 {
     if !clauses.is_empty() {
         out.key("elifs");
@@ -340,7 +340,7 @@ fn print_each_elif<S: Sink>(
     names: &Names,
     clauses: &Vec<ElseIfClause>,
 )
-    ensures { Prints S.after out.old out.new (array (items_in spans names.now an_elif (listed else_if_view list clauses.now).children)) }
+    ensures { Prints S.after out.old out.new (array (elif_items spans names.now clauses.now)) }
 {
     out.begin_list();
     for clause in clauses {
@@ -351,7 +351,7 @@ fn print_each_elif<S: Sink>(
 
 #[cycle(printing)]
 fn print_elif<S: Sink>(out: &mut Printer<S>, spans: bool, names: &Names, clause: &ElseIfClause)
-    ensures { Prints S.after out.old out.new (value_in spans names.now (node_form an_elif) (else_if_view clause.now)) }
+    ensures { Prints S.after out.old out.new (node_in spans names.now an_elif (else_if_view clause.now)) }
 {
     out.begin();
     print_attributes(out, spans, names, "attrs", &clause.attributes);
@@ -374,7 +374,7 @@ fn print_optional_else<S: Sink>(
     names: &Names,
     clause: &Option<ElseClause>,
 )
-    ensures { PrintsMembers S.after out.old out.new (with_option (codes "else") spans names.now (node_form an_else) (optional else_view clause.now) no_members) }
+    ensures { PrintsOption S.after out.old out.new (codes "else") spans names.now an_else else_view clause.now }
 {
     match clause {
         Some(clause) => {
@@ -387,7 +387,7 @@ fn print_optional_else<S: Sink>(
 
 #[cycle(printing)]
 fn print_else<S: Sink>(out: &mut Printer<S>, spans: bool, names: &Names, clause: &ElseClause)
-    ensures { Prints S.after out.old out.new (value_in spans names.now (node_form an_else) (else_view clause.now)) }
+    ensures { Prints S.after out.old out.new (node_in spans names.now an_else (else_view clause.now)) }
 {
     out.begin();
     print_attributes(out, spans, names, "attrs", &clause.attributes);
@@ -402,7 +402,7 @@ fn print_clauses<S: Sink>(
     names: &Names,
     clauses: &Vec<SwitchClause>,
 )
-    ensures { PrintsList S.after out.old out.new (codes "clauses") (items_in spans names.now a_clause (listed clause_view clauses_kind clauses.now).children) }
+    ensures { PrintsList S.after out.old out.new (codes "clauses") (clause_items spans names.now clauses.now) }
 {
     if !clauses.is_empty() {
         out.key("clauses");
@@ -417,7 +417,7 @@ fn print_each_clause<S: Sink>(
     names: &Names,
     clauses: &Vec<SwitchClause>,
 )
-    ensures { Prints S.after out.old out.new (array (items_in spans names.now a_clause (listed clause_view clauses_kind clauses.now).children)) }
+    ensures { Prints S.after out.old out.new (array (clause_items spans names.now clauses.now)) }
 {
     out.begin_list();
     for clause in clauses {
@@ -428,7 +428,7 @@ fn print_each_clause<S: Sink>(
 
 #[cycle(printing)]
 fn print_clause<S: Sink>(out: &mut Printer<S>, spans: bool, names: &Names, clause: &SwitchClause)
-    ensures { Prints S.after out.old out.new (value_in spans names.now (node_form a_clause) (clause_view clause.now)) }
+    ensures { Prints S.after out.old out.new (node_in spans names.now a_clause (clause_view clause.now)) }
 {
     out.begin();
     print_attributes(out, spans, names, "attrs", &clause.attributes);
@@ -443,7 +443,7 @@ fn print_cases<S: Sink>(
     names: &Names,
     selectors: &Vec<CaseSelector>,
 )
-    ensures { PrintsList S.after out.old out.new (codes "cases") (items_in spans names.now a_case (listed selector_view list selectors.now).children) }
+    ensures { PrintsList S.after out.old out.new (codes "cases") (case_items spans names.now selectors.now) }
 {
     if !selectors.is_empty() {
         out.key("cases");
@@ -457,7 +457,7 @@ fn print_each_case<S: Sink>(
     names: &Names,
     selectors: &Vec<CaseSelector>,
 )
-    ensures { Prints S.after out.old out.new (array (items_in spans names.now a_case (listed selector_view list selectors.now).children)) }
+    ensures { Prints S.after out.old out.new (array (case_items spans names.now selectors.now)) }
 {
     out.begin_list();
     for selector in selectors {
@@ -467,7 +467,7 @@ fn print_each_case<S: Sink>(
 }
 
 fn print_case<S: Sink>(out: &mut Printer<S>, spans: bool, names: &Names, selector: &CaseSelector)
-    ensures { Prints S.after out.old out.new (value_in spans names.now (node_form a_case) (selector_view selector.now)) }
+    ensures { Prints S.after out.old out.new (node_in spans names.now a_case (selector_view selector.now)) }
 {
     match selector {
         CaseSelector::Default => {
@@ -488,7 +488,7 @@ fn print_optional_continuing<S: Sink>(
     names: &Names,
     continuing: &Option<ContinuingStatement>,
 )
-    ensures { PrintsMembers S.after out.old out.new (with_option (codes "continuing") spans names.now (node_form a_continuing) (optional continuing_view continuing.now) no_members) }
+    ensures { PrintsOption S.after out.old out.new (codes "continuing") spans names.now a_continuing continuing_view continuing.now }
 {
     match continuing {
         Some(continuing) => {
@@ -506,7 +506,7 @@ fn print_continuing<S: Sink>(
     names: &Names,
     continuing: &ContinuingStatement,
 )
-    ensures { Prints S.after out.old out.new (value_in spans names.now (node_form a_continuing) (continuing_view continuing.now)) }
+    ensures { Prints S.after out.old out.new (node_in spans names.now a_continuing (continuing_view continuing.now)) }
 {
     out.begin();
     print_attributes(out, spans, names, "attrs", &continuing.attributes);
@@ -521,7 +521,7 @@ fn print_optional_break_if<S: Sink>(
     names: &Names,
     break_if: &Option<BreakIfStatement>,
 )
-    ensures { PrintsMembers S.after out.old out.new (with_option (codes "break_if") spans names.now (node_form a_break_if) (optional break_if_view break_if.now) no_members) }
+    ensures { PrintsOption S.after out.old out.new (codes "break_if") spans names.now a_break_if break_if_view break_if.now }
 {
     match break_if {
         Some(break_if) => {
@@ -538,7 +538,7 @@ fn print_break_if<S: Sink>(
     names: &Names,
     break_if: &BreakIfStatement,
 )
-    ensures { Prints S.after out.old out.new (value_in spans names.now (node_form a_break_if) (break_if_view break_if.now)) }
+    ensures { Prints S.after out.old out.new (node_in spans names.now a_break_if (break_if_view break_if.now)) }
 {
     out.begin();
     print_attributes(out, spans, names, "attrs", &break_if.attributes);
@@ -561,7 +561,7 @@ fn print_optional_statement<S: Sink>(
     key: &str,
     statement: &Option<Box<StatementNode>>,
 )
-    ensures { PrintsMembers S.after out.old out.new (with_option key.now spans names.now (node_form a_statement) (optional (λ s. statement_tree (box_value s)) statement.now) no_members) }
+    ensures { PrintsOption S.after out.old out.new key.now spans names.now a_statement boxed_statement statement.now }
 {
     match statement {
         Some(statement) => {

@@ -126,6 +126,14 @@ AddsTaker s n old new = (c e : ℕ) → Leads new c e ↔ (Leads old c e ⊎ ((n
 abbrev pub AddsTakers : List (ShapeOf ℕ) → List ℕ → ℕ → Graph → Graph → Type 0
 AddsTakers shapes js n old new = (c e : ℕ) → Leads new c e ↔ (Leads old c e ⊎ ((n ≡ e) × (list_any (λ j. takes_count c (shape_at shapes j)) js ≡ true)))
 
+-- edges lead from each number that passes to itself, and nowhere else
+abbrev pub LeadToThemselves : (ℕ → Type 0) → Graph → Type 0
+LeadToThemselves passes g = (v e : ℕ) → Leads g v e ↔ ((v ≡ e) × passes e)
+
+-- edges lead from a count to each number that takes so many arguments
+abbrev pub LeadToTakers : Tables → Graph → Type 0
+LeadToTakers t g = (c e : ℕ) → Leads g c e ↔ (takes_count_at t c e ≡ true)
+
 -- an edge from a number to itself is added, if it is one of those
 abbrev pub AddsItself : ℕ → Bool → Graph → Graph → Type 0
 AddsItself n is_one old new = (v e : ℕ) → Leads new v e ↔ (Leads old v e ⊎ ((n ≡ v) × (n ≡ e) × (is_one ≡ true)))

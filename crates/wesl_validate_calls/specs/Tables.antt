@@ -1,5 +1,5 @@
 -- What a module is to its calls, as tables tell it.
-use Rattle.std.specs.Prelude.{◌≡◌, ◌↔◌, ℕ, Bool, ◌==◌, Option, Some, None, List, [], ◌∷◌, flat_map, get_or, if◌then◌else◌}
+use Rattle.std.specs.Prelude.{◌≡◌, ◌↔◌, ℕ, Bool, ◌||◌, ◌==◌, Option, Some, None, List, [], ◌∷◌, ◌++◌, flat_map, get_or, if◌then◌else◌}
 use Rattle.wesl_tree_syntax.specs.Unit.{UnitView}
 use Rattle.wesl_scope_occurrences.specs.Occurrences.{OccurrenceIn, is_module_name}
 use Rattle.wesl_scope_strip.specs.Declarations.{all}
@@ -54,6 +54,18 @@ module _ {B : Type 0} where
   -- the edges from the number m that these identifiers make, in their order
   abbrev pub edges_of : (OccurrenceIn ℕ B → Option ℕ) → ℕ → List (OccurrenceIn ℕ B) → List ℕ
   edges_of f m os = flat_map (edges_here f m) os
+
+-- the edge from the number n, of those from the number m
+abbrev pub edge_from : ℕ → Option ℕ → ℕ → List ℕ
+edge_from n target m = if n == m then one_or_none target else []
+
+-- from each number these edges are put after those before
+abbrev pub AddsEdges : (ℕ → List ℕ) → Graph → Graph → Type 0
+AddsEdges edges old new = (m : ℕ) → edges_at new m ≡ edges_at old m ++ edges m
+
+-- the numbers that pass are marked too
+abbrev pub AddsMarks : (ℕ → Bool) → List Bool → List Bool → Type 0
+AddsMarks passes old new = (m : ℕ) → mark_at new m ≡ (mark_at old m || passes m)
 
 -- the declarations of a number, in document order
 abbrev pub declarers : UnitView → ℕ → List ℕ

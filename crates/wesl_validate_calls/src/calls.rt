@@ -1,11 +1,12 @@
 //! The calls of a declaration.
-ghost use Rattle.std.specs.Prelude.{◌≡◌, ◌++◌, map, flat_map, IfOk, IfErr};
+ghost use Rattle.std.specs.Prelude.{◌≡◌, map, IfOk, IfErr};
 ghost use Rattle.wesl_tree_names.specs.declared.errors.Error as error;
 ghost use Rattle.wesl_visit_collect.specs.Lent.{views};
 ghost use Rattle.wesl_tree_syntax.specs.Tree.{before, end};
 ghost use Rattle.wesl_tree_syntax.specs.View.{call_view, expression_tree, expression_view, global_view, statement_tree, statement_view};
 ghost use Rattle.wesl_validate_rules.specs.Calls.{call_by, called_in, calls_in};
-ghost use Rattle.wesl_validate_calls.specs.Made.{call_told, one_told};
+ghost use Rattle.wesl_validate_calls.specs.Made.{call_told, calls_among, one_told};
+ghost use Rattle.wesl_validate_calls.specs.Views.{AddsCalls};
 
 use std::alloc::{AllocError, Global};
 use wesl_tree_names::Error;
@@ -77,7 +78,7 @@ fn statement_call(statement: &Statement) -> Option<Call>
 }
 
 fn add(calls: &mut Vec<Call>, call: Option<Call>) -> Result<(), AllocError>
-    ensures { IfOk result (λ _. map call_told calls.new.items ≡ map call_told calls.old.items ++ one_told call) }
+    ensures { IfOk result (λ _. AddsCalls (one_told call) calls.old calls.new) }
 {
     match call {
         None => Ok(()),
@@ -89,7 +90,7 @@ fn add(calls: &mut Vec<Call>, call: Option<Call>) -> Result<(), AllocError>
 }
 
 fn add_expressions(calls: &mut Vec<Call>, nodes: &Vec<&ExpressionNode>) -> Result<(), AllocError>
-    ensures { IfOk result (λ _. map call_told calls.new.items ≡ map call_told calls.old.items ++ flat_map (λ t. called_in t.children) (views expression_tree nodes.now.items)) }
+    ensures { IfOk result (λ _. AddsCalls (calls_among (views expression_tree nodes.now.items)) calls.old calls.new) }
 {
     for node in nodes {
         let call = expression_call(&node.node);
@@ -99,7 +100,7 @@ fn add_expressions(calls: &mut Vec<Call>, nodes: &Vec<&ExpressionNode>) -> Resul
 }
 
 fn add_statements(calls: &mut Vec<Call>, nodes: &Vec<&StatementNode>) -> Result<(), AllocError>
-    ensures { IfOk result (λ _. map call_told calls.new.items ≡ map call_told calls.old.items ++ flat_map (λ t. called_in t.children) (views statement_tree nodes.now.items)) }
+    ensures { IfOk result (λ _. AddsCalls (calls_among (views statement_tree nodes.now.items)) calls.old calls.new) }
 {
     for node in nodes {
         let call = statement_call(&node.node);

@@ -1,13 +1,12 @@
 //! Where the aliases of calls lead.
-ghost use Rattle.std.specs.Prelude.{◌≡◌, ◌↔◌, ◌≤◌, ℕ, true, length, map, IfOk};
+ghost use Rattle.std.specs.Prelude.{◌≡◌, ◌≤◌, ℕ, true, length, map, IfOk};
 ghost use Rattle.std.specs.List.{list_any};
 ghost use Rattle.wesl_scope_values.specs.Values.{IsTurned, value_at};
-ghost use Rattle.wesl_validate_builtins.specs.Builtins.{builtins_view};
-ghost use Rattle.wesl_validate_rules.specs.Graphs.{graph_view, IsClosed, Leads};
-ghost use Rattle.wesl_validate_calls.specs.Ends.{AddsItself, AreEnds, AreOpen, AreOpened, IsEnder, counts_at, is_open, is_open_at, opens_at};
+ghost use Rattle.wesl_validate_rules.specs.Graphs.{graph_view, IsClosed};
+ghost use Rattle.wesl_validate_calls.specs.Ends.{AddsItself, AreOpen, AreOpened, IsEnder, LeadToThemselves, counts_at, is_open, is_open_at, opens_at};
 ghost use Rattle.wesl_validate_calls.specs.Judged.{count_at};
 ghost use Rattle.wesl_validate_calls.specs.Tables.{shape_at};
-ghost use Rattle.wesl_validate_calls.specs.Views.{ends_view, shape_view, tables_view};
+ghost use Rattle.wesl_validate_calls.specs.Views.{AreEndsIn, builtins_in, shape_view, tables_view};
 
 use crate::callables::Callables;
 use crate::judge::{count_at, ends_at, is_builtin};
@@ -73,7 +72,7 @@ fn counts_at(tables: &Tables, number: usize) -> bool
 
 /// The numbers that have a function or a structure, each led to itself.
 fn counting(alloc: Global, tables: &Tables) -> Result<Vec<Vec<usize>>, AllocError>
-    ensures { IfOk result (λ told. (v e : ℕ) → Leads (graph_view told.items) v e ↔ ((v ≡ e) × (counts_at (tables_view tables.now) e ≡ true))) }
+    ensures { IfOk result (λ told. LeadToThemselves (λ e. counts_at (tables_view tables.now) e ≡ true) (graph_view told.items)) }
 {
     let mut told = Vec::new(alloc);
     for number in 0..tables.declarers.len() {
@@ -85,7 +84,7 @@ fn counting(alloc: Global, tables: &Tables) -> Result<Vec<Vec<usize>>, AllocErro
 
 /// The numbers with aliases, or to which these lead, at which aliases end, each led to itself.
 fn ending(alloc: Global, tables: &Tables) -> Result<Vec<Vec<usize>>, AllocError>
-    ensures { IfOk result (λ told. (v e : ℕ) → Leads (graph_view told.items) v e ↔ ((v ≡ e) × IsEnder (tables_view tables.now) e)) }
+    ensures { IfOk result (λ told. LeadToThemselves (IsEnder (tables_view tables.now)) (graph_view told.items)) }
 {
     let mut told = Vec::new(alloc);
     for number in 0..tables.aliases.len() {
@@ -120,7 +119,7 @@ fn opens_at(tables: &Tables, number: usize) -> bool
 /// Whether a number takes any count of arguments: an alias of a type with a path or with template arguments declares it, or
 /// it is built in.
 fn opens(tables: &Tables, names: &Names, callables: &Callables<'_>, number: usize) -> bool
-    ensures { result ≡ is_open_at (tables_view tables.now) names.now (builtins_view callables.now.builtins.now) number }
+    ensures { result ≡ is_open_at (tables_view tables.now) names.now (builtins_in callables.now) number }
 {
     opens_at(tables, number) || is_builtin(tables, names, callables, number)
 }
@@ -144,7 +143,7 @@ fn open_numbers(
     names: &Names,
     callables: &Callables<'_>,
 ) -> Result<Vec<bool>, AllocError>
-    ensures { IfOk result (λ marks. AreOpen (tables_view tables.now) names.now (builtins_view callables.now.builtins.now) marks.items) }
+    ensures { IfOk result (λ marks. AreOpen (tables_view tables.now) names.now (builtins_in callables.now) marks.items) }
 {
     let mut marks = Vec::new(alloc);
     for number in 0..number_count(tables) {
@@ -164,7 +163,7 @@ fn opened(
 ) -> Result<Vec<bool>, AllocError>
     requires closed { IsClosed (tables_view tables.now).aliases }
     requires back { IsTurned (tables_view tables.now).aliases (graph_view back.now) }
-    ensures { IfOk result (λ marks. AreOpened (tables_view tables.now) names.now (builtins_view callables.now.builtins.now) marks.items) }
+    ensures { IfOk result (λ marks. AreOpened (tables_view tables.now) names.now (builtins_in callables.now) marks.items) }
 {
     let mut marks = open_numbers(alloc, tables, names, callables)?;
     reach(alloc, back, &mut marks)?;
@@ -180,7 +179,7 @@ pub(crate) fn ends_of(
     callables: &Callables<'_>,
 ) -> Result<Ends, AllocError>
     requires { IsClosed (tables_view tables.now).aliases }
-    ensures { IfOk result (λ ends. AreEnds (tables_view tables.now) names.now (builtins_view callables.now.builtins.now) (ends_view ends)) }
+    ensures { IfOk result (λ ends. AreEndsIn tables.now names.now callables.now ends) }
 {
     let back = turned(alloc, &tables.aliases)?;
     let takers = takers_of(alloc, tables)?;

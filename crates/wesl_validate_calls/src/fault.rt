@@ -1,16 +1,14 @@
 //! The faults of a module.
-ghost use Rattle.std.specs.Prelude.{◌≡◌, ◌<◌, length, string_bytes, IfOk, IfErr, IfSome, IfNone, Some, None};
+ghost use Rattle.std.specs.Prelude.{◌≡◌, ◌<◌, length, IfOk, IfErr, IfSome, IfNone};
 ghost use Rattle.std.specs.List.{All};
-ghost use Rattle.std.specs.Option.{option_map};
 ghost use Rattle.wesl_tree_names.specs.declared.errors.Error as error;
-ghost use Rattle.wesl_tree_syntax.specs.Unit.{UnitView};
 ghost use Rattle.wesl_tree.specs.Translation.{unit_view};
 ghost use Rattle.wesl_scope_occurrences.specs.Identified.{identified};
 ghost use Rattle.wesl_scope_strip.specs.Declarations.{all};
 ghost use Rattle.wesl_validate_builtins.specs.Builtins.{builtins_view};
-ghost use Rattle.wesl_validate_rules.specs.Known.{IsNamedBy};
 ghost use Rattle.wesl_validate_rules.specs.Valid.{IsDefined, AreDistinct, IsAcyclic, IsValidWesl};
 ghost use Rattle.wesl_validate_calls.specs.Found.{IsFault};
+ghost use Rattle.wesl_validate_calls.specs.Views.{OfNamed};
 
 use crate::told::{name_of, name_round};
 use std::alloc::{AllocError, Global};
@@ -36,8 +34,8 @@ fn undefined_fault(
     builtins: &Builtins,
 ) -> Result<Option<Fault>, AllocError>
     requires within { All (λ o. o.ident.0 < length names.now) found.now.all.items }
-    ensures fault { IfOk result (λ r. IfSome r (λ f. (u : UnitView) → IsNamedBy u names.now found.now → IsFault u (builtins_view builtins.now) f)) }
-    ensures none { IfOk result (λ r. IfNone r ((u : UnitView) → IsNamedBy u names.now found.now → IsDefined u (builtins_view builtins.now))) }
+    ensures fault { IfOk result (λ r. IfSome r (λ f. OfNamed names.now found.now (λ u. IsFault u (builtins_view builtins.now) f))) }
+    ensures none { IfOk result (λ r. IfNone r (OfNamed names.now found.now (λ u. IsDefined u (builtins_view builtins.now)))) }
 {
     match undefined(alloc, names, found, builtins)? {
         None => Ok(None),
@@ -75,8 +73,8 @@ fn cycle_fault(
     found: &Identifiers<'_>,
     builtins: &Builtins,
 ) -> Result<Option<Fault>, AllocError>
-    ensures fault { IfOk result (λ r. IfSome r (λ f. (u : UnitView) → IsNamedBy u names.now found.now → IsFault u (builtins_view builtins.now) f)) }
-    ensures none { IfOk result (λ r. IfNone r ((u : UnitView) → IsNamedBy u names.now found.now → IsAcyclic u)) }
+    ensures fault { IfOk result (λ r. IfSome r (λ f. OfNamed names.now found.now (λ u. IsFault u (builtins_view builtins.now) f))) }
+    ensures none { IfOk result (λ r. IfNone r (OfNamed names.now found.now IsAcyclic)) }
 {
     match cycle(alloc, found)? {
         None => Ok(None),

@@ -1,5 +1,5 @@
 //! Calls that fit nothing.
-ghost use Rattle.std.specs.Prelude.{◌≡◌, ◌<◌, length, get_or, map, All, IfOk, IfErr, IfSome, IfNone};
+ghost use Rattle.std.specs.Prelude.{◌≡◌, ◌<◌, length, get_or, map, IfOk, IfErr, IfSome, IfNone};
 ghost use Rattle.wesl_tree_names.specs.declared.errors.Error as error;
 ghost use Rattle.wesl_tree_syntax.specs.Tree.{before, end};
 ghost use Rattle.wesl_tree_syntax.specs.View.{global_view};
@@ -9,11 +9,10 @@ ghost use Rattle.wesl_scope_strip.specs.Declarations.{all};
 ghost use Rattle.wesl_validate_builtins.specs.Builtins.{builtins_view};
 ghost use Rattle.wesl_validate_rules.specs.Calls.{calls_in};
 ghost use Rattle.wesl_validate_rules.specs.Valid.{IsFitting};
-ghost use Rattle.wesl_validate_calls.specs.Ends.{AreEnds};
 ghost use Rattle.wesl_validate_calls.specs.Made.{call_told};
-ghost use Rattle.wesl_validate_calls.specs.Misfits.{Passes, MissesIn, MissesAmong};
+ghost use Rattle.wesl_validate_calls.specs.Misfits.{MissesIn};
 ghost use Rattle.wesl_validate_calls.specs.Tables.{AreTables};
-ghost use Rattle.wesl_validate_calls.specs.Views.{ends_view, tables_view};
+ghost use Rattle.wesl_validate_calls.specs.Views.{AllPass, AreEndsIn, OneMisses, builtins_in, tables_view};
 
 use crate::callables::Callables;
 use crate::calls::{Call, calls_of};
@@ -45,9 +44,9 @@ fn misfit_among(
     calls: &Vec<Call>,
 ) -> Option<Misfit>
     requires tables { AreTables (unit_view unit.now) (tables_view tables.now) }
-    requires ends { AreEnds (tables_view tables.now) (unit_view unit.now).names (builtins_view callables.now.builtins.now) (ends_view ends.now) }
-    ensures misfit { IfSome result (MissesAmong (unit_view unit.now) (builtins_view callables.now.builtins.now) (map call_told calls.now.items)) }
-    ensures none { IfNone result (All (Passes (unit_view unit.now) (builtins_view callables.now.builtins.now)) (map call_told calls.now.items)) }
+    requires ends { AreEndsIn tables.now (unit_view unit.now).names callables.now ends.now }
+    ensures misfit { IfSome result (OneMisses unit.now callables.now (map call_told calls.now.items)) }
+    ensures none { IfNone result (AllPass unit.now callables.now (map call_told calls.now.items)) }
 {
     for place in 0..calls.len() {
         let call = call_at(calls, place);
@@ -68,9 +67,9 @@ fn misfit_in(
     declaration: &GlobalDeclaration,
 ) -> Result<Option<Misfit>, Error>
     requires tables { AreTables (unit_view unit.now) (tables_view tables.now) }
-    requires ends { AreEnds (tables_view tables.now) (unit_view unit.now).names (builtins_view callables.now.builtins.now) (ends_view ends.now) }
-    ensures misfit { IfOk result (λ r. IfSome r (MissesAmong (unit_view unit.now) (builtins_view callables.now.builtins.now) (calls_in (before (global_view declaration.now) end)))) }
-    ensures none { IfOk result (λ r. IfNone r (All (Passes (unit_view unit.now) (builtins_view callables.now.builtins.now)) (calls_in (before (global_view declaration.now) end)))) }
+    requires ends { AreEndsIn tables.now (unit_view unit.now).names callables.now ends.now }
+    ensures misfit { IfOk result (λ r. IfSome r (OneMisses unit.now callables.now (calls_in (before (global_view declaration.now) end)))) }
+    ensures none { IfOk result (λ r. IfNone r (AllPass unit.now callables.now (calls_in (before (global_view declaration.now) end)))) }
     ensures refused { IfErr result (λ e. e ≡ error.Memory) }
 {
     let calls = calls_of(alloc, declaration)?;
@@ -86,9 +85,9 @@ fn misfit_of(
     ends: &Ends,
 ) -> Result<Option<(usize, Misfit)>, Error>
     requires tables { AreTables (unit_view unit.now) (tables_view tables.now) }
-    requires ends { AreEnds (tables_view tables.now) (unit_view unit.now).names (builtins_view callables.now.builtins.now) (ends_view ends.now) }
-    ensures misfit { IfOk result (λ r. IfSome r (λ p. MissesIn (unit_view unit.now) (builtins_view callables.now.builtins.now) p.0 p.1)) }
-    ensures none { IfOk result (λ r. IfNone r (IsFitting (unit_view unit.now) (builtins_view callables.now.builtins.now))) }
+    requires ends { AreEndsIn tables.now (unit_view unit.now).names callables.now ends.now }
+    ensures misfit { IfOk result (λ r. IfSome r (λ p. MissesIn (unit_view unit.now) (builtins_in callables.now) p.0 p.1)) }
+    ensures none { IfOk result (λ r. IfNone r (IsFitting (unit_view unit.now) (builtins_in callables.now))) }
     ensures refused { IfErr result (λ e. e ≡ error.Memory) }
 {
     let declarations = unit.global_declarations();

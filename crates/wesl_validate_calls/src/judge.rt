@@ -4,16 +4,15 @@ ghost use Rattle.std.specs.Option.{option_map};
 ghost use Rattle.wesl_scope_values.specs.Values.{value_at};
 ghost use Rattle.wesl_validate_calls.specs.declared.misfit.Misfit.TheVariants as misfit;
 ghost use Rattle.std.specs.List.{list_any};
-ghost use Rattle.wesl_validate_builtins.specs.Builtins.{builtins_view};
 ghost use Rattle.wesl_scope_strip.specs.Marks.{mark_at};
 ghost use Rattle.wesl_tree_syntax.specs.Unit.{name_in};
 ghost use Rattle.wesl_validate_rules.specs.Calls.{is_plain_alias};
 ghost use Rattle.wesl_validate_rules.specs.Graphs.{graph_view, edges_at, IsClosed};
-ghost use Rattle.wesl_validate_calls.specs.Ends.{AreEnded, AreEnds, FitsAt, IsJudged, IsLeastEnd, is_builtin_at, is_found};
+ghost use Rattle.wesl_validate_calls.specs.Ends.{AreEnded, FitsAt, IsJudged, IsLeastEnd, is_builtin_at, is_found};
 ghost use Rattle.wesl_validate_calls.specs.Made.{call_told};
 ghost use Rattle.wesl_validate_calls.specs.Judged.{first_some, count_at, ends_at, count_of};
 ghost use Rattle.wesl_validate_calls.specs.Tables.{shape_at};
-ghost use Rattle.wesl_validate_calls.specs.Views.{ends_view, shape_view, tables_view};
+ghost use Rattle.wesl_validate_calls.specs.Views.{AreEndsIn, builtins_in, ends_view, shape_view, tables_view};
 
 use crate::callables::Callables;
 use crate::calls::Call;
@@ -49,7 +48,7 @@ pub(crate) fn is_builtin(
     callables: &Callables<'_>,
     number: usize,
 ) -> bool
-    ensures { result ≡ is_builtin_at (tables_view tables.now) names.now (builtins_view callables.now.builtins.now) number }
+    ensures { result ≡ is_builtin_at (tables_view tables.now) names.now (builtins_in callables.now) number }
 {
     !is_bound(&tables.bound, number) && callables.has(name_of(names, number))
 }
@@ -118,7 +117,7 @@ fn is_found(
     callables: &Callables<'_>,
     call: Call,
 ) -> bool
-    ensures { result ≡ is_found (tables_view tables.now) names.now (builtins_view callables.now.builtins.now) (ends_view ends.now) (call_told call) }
+    ensures { result ≡ is_found (tables_view tables.now) names.now (builtins_in callables.now) (ends_view ends.now) (call_told call) }
 {
     leads(&ends.taken, call.callee, call.arguments)
         || (is_bound(&ends.any_count, call.callee)
@@ -129,8 +128,8 @@ fn is_found(
 /// can be called.
 fn fits(tables: &Tables, ends: &Ends, names: &Names, callables: &Callables<'_>, call: Call) -> bool
     requires closed { IsClosed (tables_view tables.now).aliases }
-    requires ends { AreEnds (tables_view tables.now) names.now (builtins_view callables.now.builtins.now) (ends_view ends.now) }
-    ensures { (result ≡ true) ↔ FitsAt (tables_view tables.now) names.now (builtins_view callables.now.builtins.now) (call_told call) }
+    requires ends { AreEndsIn tables.now names.now callables.now ends.now }
+    ensures { (result ≡ true) ↔ FitsAt (tables_view tables.now) names.now (builtins_in callables.now) (call_told call) }
 {
     is_found(tables, ends, names, callables, call)
 }
@@ -185,8 +184,8 @@ pub(crate) fn judged(
     call: Call,
 ) -> Option<Misfit>
     requires closed { IsClosed (tables_view tables.now).aliases }
-    requires ends { AreEnds (tables_view tables.now) names.now (builtins_view callables.now.builtins.now) (ends_view ends.now) }
-    ensures { IsJudged (tables_view tables.now) names.now (builtins_view callables.now.builtins.now) (call_told call) result }
+    requires ends { AreEndsIn tables.now names.now callables.now ends.now }
+    ensures { IsJudged (tables_view tables.now) names.now (builtins_in callables.now) (call_told call) result }
 {
     if fits(tables, ends, names, callables, call) {
         return None;

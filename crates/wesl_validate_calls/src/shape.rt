@@ -1,12 +1,11 @@
 //! What declarations are to calls.
 ghost use Rattle.std.specs.Prelude.{◌≡◌, map, IfOk};
-ghost use Rattle.wesl_tree_syntax.specs.Tree.{before, end};
-ghost use Rattle.wesl_tree_syntax.specs.View.{global_view, type_view};
-ghost use Rattle.wesl_validate_rules.specs.Calls.{alias_by, shape_in, is_plain_alias};
+ghost use Rattle.wesl_tree_syntax.specs.View.{type_view};
+ghost use Rattle.wesl_validate_rules.specs.Calls.{alias_by, is_plain_alias};
 ghost use Rattle.wesl_validate_calls.specs.Ends.{is_open};
 ghost use Rattle.wesl_validate_calls.specs.Judged.{count_of};
 ghost use Rattle.wesl_validate_calls.specs.Tables.{shape_at};
-ghost use Rattle.wesl_validate_calls.specs.Views.{shape_view};
+ghost use Rattle.wesl_validate_calls.specs.Views.{shape_by, shape_view};
 
 use std::alloc::{AllocError, Global};
 use wesl_tree_syntax::{GlobalDeclaration, GlobalDeclarationNode, TypeExpression};
@@ -40,7 +39,7 @@ fn alias_shape(ty: &TypeExpression) -> Shape
 
 #[tactic(auto, using(wesl_scope_strip::proofs::Keeping::trees_count))]
 fn shape_of(declaration: &GlobalDeclaration) -> Shape
-    ensures { shape_view result ≡ shape_in (before (global_view declaration.now) end) }
+    ensures { shape_view result ≡ shape_by declaration.now }
 {
     match declaration {
         GlobalDeclaration::Void => Shape::Other,
@@ -57,7 +56,7 @@ pub(crate) fn shapes_of(
     alloc: Global,
     declarations: &Vec<GlobalDeclarationNode>,
 ) -> Result<Vec<Shape>, AllocError>
-    ensures { IfOk result (λ shapes. map shape_view shapes.items ≡ map (λ d. shape_in (before (global_view d.node) end)) declarations.now.items) }
+    ensures { IfOk result (λ shapes. map shape_view shapes.items ≡ map (λ d. shape_by d.node) declarations.now.items) }
 {
     let mut shapes = Vec::with_capacity(alloc, declarations.len())?;
     for declaration in declarations {

@@ -1,12 +1,12 @@
 //! Tables of what a module's numbers are to calls.
-ghost use Rattle.std.specs.Prelude.{◌≡◌, ◌++◌, ◌==◌, ℕ, [], map, if◌then◌else◌, IfOk};
+ghost use Rattle.std.specs.Prelude.{◌≡◌, map, IfOk};
 ghost use Rattle.wesl_scope_occurrences.specs.Identified.{identified};
 ghost use Rattle.wesl_scope_occurrences.specs.Views.{occurrence_view};
 ghost use Rattle.wesl_scope_strip.specs.Declarations.{all};
-ghost use Rattle.wesl_validate_rules.specs.Graphs.{graph_view, edges_at, IsClosed};
+ghost use Rattle.wesl_validate_rules.specs.Graphs.{graph_view, IsClosed};
 ghost use Rattle.wesl_tree.specs.Translation.{unit_view};
-ghost use Rattle.wesl_validate_calls.specs.Tables.{AreTables, one_or_none, declaration_named, target_of, alias_target, edges_of};
-ghost use Rattle.wesl_validate_calls.specs.Views.{shape_view, tables_view};
+ghost use Rattle.wesl_validate_calls.specs.Tables.{AddsEdges, AreTables, alias_target, declaration_named, edge_from, target_of};
+ghost use Rattle.wesl_validate_calls.specs.Views.{AreEdges, shape_view, tables_view};
 
 use crate::numbers::bound_numbers;
 use crate::shape::{Shape, shape_at, shapes_of};
@@ -65,7 +65,7 @@ fn add_target(
     from: usize,
     target: Option<usize>,
 ) -> Result<(), AllocError>
-    ensures added { IfOk result (λ _. (m : ℕ) → edges_at (graph_view graph.new.items) m ≡ edges_at (graph_view graph.old.items) m ++ (if from == m then one_or_none target else [])) }
+    ensures added { IfOk result (λ _. AddsEdges (edge_from from target) (graph_view graph.old.items) (graph_view graph.new.items)) }
     ensures closed { IfOk result (λ _. IsClosed (graph_view graph.old.items) → IsClosed (graph_view graph.new.items)) }
 {
     match target {
@@ -76,7 +76,7 @@ fn add_target(
 
 /// Of each number the declarations that declare it.
 fn declarers_of(alloc: Global, found: &Identifiers<'_>) -> Result<Vec<Vec<usize>>, AllocError>
-    ensures { IfOk result (λ graph. (m : ℕ) → edges_at (graph_view graph.items) m ≡ edges_of declaration_named m (map occurrence_view found.now.all.items)) }
+    ensures { IfOk result (λ graph. AreEdges declaration_named found.now graph.items) }
 {
     let mut declarers = Vec::new(alloc);
     for occurrence in &found.all {
@@ -92,7 +92,7 @@ fn aliases_of(
     shapes: &Vec<Shape>,
     found: &Identifiers<'_>,
 ) -> Result<Vec<Vec<usize>>, AllocError>
-    ensures edges { IfOk result (λ graph. (m : ℕ) → edges_at (graph_view graph.items) m ≡ edges_of (alias_target (map shape_view shapes.now.items)) m (map occurrence_view found.now.all.items)) }
+    ensures edges { IfOk result (λ graph. AreEdges (alias_target (map shape_view shapes.now.items)) found.now graph.items) }
     ensures closed { IfOk result (λ graph. IsClosed (graph_view graph.items)) }
 {
     let mut aliases = Vec::new(alloc);

@@ -1,7 +1,7 @@
 //! Which names take how many arguments.
-ghost use Rattle.std.specs.Prelude.{◌≡◌, ◌↔◌, ℕ, true, map, IfOk};
-ghost use Rattle.wesl_validate_rules.specs.Graphs.{graph_view, Leads};
-ghost use Rattle.wesl_validate_calls.specs.Ends.{AddsTaker, AddsTakers, takes_count_at};
+ghost use Rattle.std.specs.Prelude.{map, IfOk};
+ghost use Rattle.wesl_validate_rules.specs.Graphs.{graph_view};
+ghost use Rattle.wesl_validate_calls.specs.Ends.{AddsTaker, AddsTakers, LeadToTakers};
 ghost use Rattle.wesl_validate_calls.specs.Views.{shape_view, tables_view};
 
 use crate::shape::{Shape, shape_at};
@@ -52,7 +52,7 @@ fn add_takers(
 
 /// Of each count of arguments the numbers of functions and structures that take it. Refused for want of memory alone.
 pub(crate) fn takers_of(alloc: Global, tables: &Tables) -> Result<Vec<Vec<usize>>, AllocError>
-    ensures { IfOk result (λ takers. (c e : ℕ) → Leads (graph_view takers.items) c e ↔ (takes_count_at (tables_view tables.now) c e ≡ true)) }
+    ensures { IfOk result (λ takers. LeadToTakers (tables_view tables.now) (graph_view takers.items)) }
 {
     let mut takers = Vec::new(alloc);
     for number in 0..tables.declarers.len() {

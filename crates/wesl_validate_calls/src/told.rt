@@ -1,12 +1,12 @@
 //! What a fault tells: names, and the declaration that holds it.
-ghost use Rattle.std.specs.Prelude.{◌≡◌, map, string_bytes, IfOk};
+ghost use Rattle.std.specs.Prelude.{◌≡◌, string_bytes, IfOk};
 ghost use Rattle.std.specs.List.{find};
 ghost use Rattle.std.specs.Option.{option_map};
-ghost use Rattle.wesl_tree_syntax.specs.Unit.{UnitView, name_in};
+ghost use Rattle.wesl_tree_syntax.specs.Unit.{name_in};
 ghost use Rattle.wesl_scope_occurrences.specs.Views.{occurrence_view};
 ghost use Rattle.wesl_scope_strip.specs.Marks.{names_here};
-ghost use Rattle.wesl_validate_rules.specs.Known.{IsNamedBy};
 ghost use Rattle.wesl_validate_rules.specs.Faults.{name_round};
+ghost use Rattle.wesl_validate_calls.specs.Views.{OfNamed, found_view};
 
 use std::alloc::{AllocError, Global};
 use wesl_scope_occurrences::{Identifiers, Occurrence, Standing};
@@ -39,7 +39,7 @@ fn names_it(occurrence: &Occurrence<'_>, declaration: usize) -> bool
 /// The identifier that a declaration declares, if it declares one.
 #[tactic(auto, using(wesl_validate_builtins::proofs::Strings::find_map, wesl_validate_builtins::proofs::Strings::find_map_next))]
 fn declared<'a, 'b>(found: &'b Identifiers<'a>, declaration: usize) -> Option<&'b Occurrence<'a>>
-    ensures { option_map (λ o. occurrence_view o.now) result ≡ find (names_here declaration) (map occurrence_view found.now.all.items) }
+    ensures { option_map (λ o. occurrence_view o.now) result ≡ find (names_here declaration) (found_view found.now) }
 {
     for occurrence in &found.all {
         if names_it(occurrence, declaration) {
@@ -56,7 +56,7 @@ pub fn name_round(
     found: &Identifiers<'_>,
     declaration: Option<usize>,
 ) -> Result<Option<String>, AllocError>
-    ensures { IfOk result (λ name. (u : UnitView) → IsNamedBy u names.now found.now → option_map string_bytes name ≡ name_round u declaration) }
+    ensures { IfOk result (λ name. OfNamed names.now found.now (λ u. option_map string_bytes name ≡ name_round u declaration)) }
 {
     let Some(declaration) = declaration else {
         return Ok(None);

@@ -1,16 +1,14 @@
 //! All calls that fit nothing.
-ghost use Rattle.std.specs.Prelude.{◌≡◌, ◌++◌, map, IfOk, IfErr};
+ghost use Rattle.std.specs.Prelude.{◌≡◌, ◌++◌, IfOk, IfErr};
 ghost use Rattle.wesl_tree_names.specs.declared.errors.Error as error;
-ghost use Rattle.wesl_tree_syntax.specs.View.{global_view};
 ghost use Rattle.wesl_tree.specs.Translation.{unit_view};
 ghost use Rattle.wesl_scope_occurrences.specs.Identified.{identified};
 ghost use Rattle.wesl_scope_strip.specs.Declarations.{all};
 ghost use Rattle.wesl_validate_builtins.specs.Builtins.{builtins_view};
-ghost use Rattle.wesl_validate_calls.specs.Ends.{AreEnds};
 ghost use Rattle.wesl_validate_calls.specs.Made.{call_told};
 ghost use Rattle.wesl_validate_calls.specs.Tables.{AreTables};
-ghost use Rattle.wesl_validate_calls.specs.Verdicts.{IsVerdict, AreMisfits, AddsMisfits, calls_there, numbered, misfit_in};
-ghost use Rattle.wesl_validate_calls.specs.Views.{ends_view, tables_view};
+ghost use Rattle.wesl_validate_calls.specs.Verdicts.{IsVerdict, AreMisfits, misfit_in};
+ghost use Rattle.wesl_validate_calls.specs.Views.{AddsMisfitsIn, AreEndsIn, builtins_in, calls_within, numbered_calls, tables_view};
 
 use crate::callables::Callables;
 use crate::calls::{Call, calls_of};
@@ -36,8 +34,8 @@ pub fn verdict(
     call: Call,
 ) -> Option<Misfit>
     requires tables { AreTables (unit_view unit.now) (tables_view tables.now) }
-    requires ends { AreEnds (tables_view tables.now) (unit_view unit.now).names (builtins_view callables.now.builtins.now) (ends_view ends.now) }
-    ensures { IsVerdict (unit_view unit.now) (builtins_view callables.now.builtins.now) (call_told call) result }
+    requires ends { AreEndsIn tables.now (unit_view unit.now).names callables.now ends.now }
+    ensures { IsVerdict (unit_view unit.now) (builtins_in callables.now) (call_told call) result }
 {
     judged(tables, ends, unit.names(), callables, call)
 }
@@ -50,7 +48,7 @@ pub fn ends_in(
     tables: &Tables,
 ) -> Result<Ends, AllocError>
     requires { AreTables (unit_view unit.now) (tables_view tables.now) }
-    ensures { IfOk result (λ ends. AreEnds (tables_view tables.now) (unit_view unit.now).names (builtins_view callables.now.builtins.now) (ends_view ends)) }
+    ensures { IfOk result (λ ends. AreEndsIn tables.now (unit_view unit.now).names callables.now ends) }
 {
     let ends = ends_of(alloc, tables, unit.names(), callables)?;
     Ok(ends)
@@ -84,8 +82,8 @@ fn add_misfits(
     calls: &Vec<Call>,
 ) -> Result<(), AllocError>
     requires tables { AreTables (unit_view unit.now) (tables_view tables.now) }
-    requires ends { AreEnds (tables_view tables.now) (unit_view unit.now).names (builtins_view callables.now.builtins.now) (ends_view ends.now) }
-    ensures { IfOk result (λ _. AddsMisfits (unit_view unit.now) (builtins_view callables.now.builtins.now) (numbered declaration (map call_told calls.now.items)) misfits.old.items misfits.new.items) }
+    requires ends { AreEndsIn tables.now (unit_view unit.now).names callables.now ends.now }
+    ensures { IfOk result (λ _. AddsMisfitsIn unit.now callables.now (numbered_calls declaration calls.now) misfits.old misfits.new) }
 {
     for place in 0..calls.len() {
         let call = call_at(calls, place);
@@ -107,8 +105,8 @@ fn add_misfits_in(
     declaration: &GlobalDeclaration,
 ) -> Result<(), Error>
     requires tables { AreTables (unit_view unit.now) (tables_view tables.now) }
-    requires ends { AreEnds (tables_view tables.now) (unit_view unit.now).names (builtins_view callables.now.builtins.now) (ends_view ends.now) }
-    ensures added { IfOk result (λ _. AddsMisfits (unit_view unit.now) (builtins_view callables.now.builtins.now) (calls_there number (global_view declaration.now)) misfits.old.items misfits.new.items) }
+    requires ends { AreEndsIn tables.now (unit_view unit.now).names callables.now ends.now }
+    ensures added { IfOk result (λ _. AddsMisfitsIn unit.now callables.now (calls_within number declaration.now) misfits.old misfits.new) }
     ensures refused { IfErr result (λ e. e ≡ error.Memory) }
 {
     let calls = calls_of(alloc, declaration)?;
@@ -125,8 +123,8 @@ fn misfits_of(
     ends: &Ends,
 ) -> Result<Vec<(usize, Misfit)>, Error>
     requires tables { AreTables (unit_view unit.now) (tables_view tables.now) }
-    requires ends { AreEnds (tables_view tables.now) (unit_view unit.now).names (builtins_view callables.now.builtins.now) (ends_view ends.now) }
-    ensures misfits { IfOk result (λ misfits. AreMisfits (unit_view unit.now) (builtins_view callables.now.builtins.now) misfits.items) }
+    requires ends { AreEndsIn tables.now (unit_view unit.now).names callables.now ends.now }
+    ensures misfits { IfOk result (λ misfits. AreMisfits (unit_view unit.now) (builtins_in callables.now) misfits.items) }
     ensures refused { IfErr result (λ e. e ≡ error.Memory) }
 {
     let declarations = unit.global_declarations();

@@ -1,15 +1,18 @@
 -- What is gathered of a module, one after the other.
-use Rattle.std.specs.Prelude.{◌≡◌, ℕ, Bool, true, false, ◌==◌, Option, Some, None, List, [], ◌∷◌, ◌++◌, map, flat_map, slice_get, if◌then◌else◌}
-use Rattle.std.specs.List.{Contains, list_any}
-use Rattle.std.specs.Option.{option_map}
+use Rattle.std.specs.Prelude.{◌≡◌, ℕ, Bool, true, false, ◌==◌, Option, Some, None, List, [], ◌∷◌, ◌++◌, Vec, bytes_eq, map, flat_map, slice_get, if◌then◌else◌}
+use Rattle.std.specs.List.{Contains, filter, list_any}
+use Rattle.std.specs.Option.{option_map, option_or}
+use Rattle.std.specs.declared.alloc.Global.{Global}
 use denote.Ref.{Bor}
 use Rattle.wesl_tree_names.specs.Path.{Text}
 use Rattle.wesl_tree_syntax.specs.Unit.{UnitView, name_in}
-use Rattle.wesl_scope_graph.specs.Graphs.{Graph, edges_at}
+use Rattle.wesl_scope_graph.specs.Graphs.{Graph, edges_at, graph_view}
 use Rattle.wesl_scope_graph.specs.Marks.{mark_at}
 use Rattle.wesl_scope_values.specs.Values.{value_at}
 use Rattle.wesl_scope_occurrences.specs.Occurrences.{is_module_name}
+use Rattle.wesl_scope_occurrences.specs.Views.{occurrence_view}
 use Rattle.wesl_scope_occurrences.specs.Walk.{Found}
+use Rattle.wesl_scope_occurrences.specs.declared.occurrence.Occurrence.{Occurrence}
 use Rattle.wesl_scope_strip.specs.Marks.{names_here}
 use Rattle.wesl_validate_rules.specs.Graphs.{IsRing}
 use Rattle.wesl_validate_rules.specs.Known.{is_unknown}
@@ -17,7 +20,7 @@ use Rattle.wesl_validate_calls.specs.declared.misfit.Misfit.{Misfit}
 use Rattle.wesl_validate_calls.specs.declared.misfit.Misfit.TheVariants as misfit
 use Rattle.wesl_validate_misfits.specs.declared.placed.PlacedMisfit.{PlacedMisfit}
 use Rattle.wesl_validate_faults.specs.Findings as spec
-use Rattle.wesl_validate_faults.specs.Listed.{module_numbers, AreCycles, IsFirst}
+use Rattle.wesl_validate_faults.specs.Listed.{module_numbers, repeated_after, AreCycles, IsFirst}
 use Rattle.wesl_validate_faults.specs.declared.finding.Finding.{Finding}
 use Rattle.wesl_validate_faults.specs.declared.finding.Finding.TheVariants as made
 use Rattle.wesl_validate_faults.specs.declared.uses.UndefinedUse.{UndefinedUse}
@@ -84,6 +87,18 @@ firsts_view = map (λ e. (e.1, e.0.now))
 abbrev pub AddsRepeated : UnitView → List ℕ → List RepeatedName → List RepeatedName → Type 0
 AddsRepeated u places old new = repeated_view new ≡ repeated_view old ++ again_after [] (names_at u places)
 
+-- these are put after those before
+abbrev pub PutsAgain : List Repeated → Vec RepeatedName Global → Vec RepeatedName Global → Type 0
+PutsAgain rs old new = repeated_view new.items ≡ repeated_view old.items ++ rs
+
+-- these members of rings are put after those before
+abbrev pub AddsMembers : List Member → Vec RingMember Global → Vec RingMember Global → Type 0
+AddsMembers ms old new = members_view new.items ≡ members_view old.items ++ ms
+
+-- these uses are put after those before
+abbrev pub AddsUses : List Use → Vec UndefinedUse Global → Vec UndefinedUse Global → Type 0
+AddsUses xs old new = uses_view new.items ≡ uses_view old.items ++ xs
+
 -- these findings are put after those before
 abbrev pub AreAdded : List Finding → List Finding → List spec.Finding → Type 0
 AreAdded old new fs = findings_view new ≡ findings_view old ++ fs
@@ -96,9 +111,21 @@ with_finding seen f = if list_any (spec.same_finding f) seen then seen else seen
 abbrev pub named_here : ℕ → Found → List ℕ
 named_here j o = if names_here j o then o.name ∷ [] else []
 
+-- an identifier is put down with the declaration of which it is the name, if it is the name of one
+abbrev pub AddsHolder : Found → Vec (Vec ℕ Global) Global → Vec (Vec ℕ Global) Global → Type 0
+AddsHolder o old new = (j : ℕ) → edges_at (graph_view new.items) j ≡ edges_at (graph_view old.items) j ++ named_here j o
+
 -- the numbers that declaration j declares, by these identifiers
 abbrev pub named_in : List Found → ℕ → List ℕ
 named_in os j = flat_map (named_here j) os
+
+-- what is found of a name after these: that it is declared again, if it is one of them
+abbrev pub duplicate_after : List Text → Text → List spec.Finding
+duplicate_after before n = if list_any (bytes_eq n) before then spec.duplicate n ∷ [] else []
+
+-- what is found of the names of these numbers: that they are declared again, each once
+abbrev pub duplicates_among : List Text → List ℕ → List spec.Finding
+duplicates_among names numbers = map spec.duplicate (repeated_after [] (map (name_in names) numbers))
 
 -- the number of an import or a declaration, where an identifier is its name
 abbrev pub declared_here : Found → List ℕ
@@ -121,6 +148,10 @@ abbrev pub place_of : List (ℕ × ℕ) → ℕ → Option ℕ
 place_of [] m = None
 place_of (x ∷ xs) m = if x.1 == m then Some x.0 else place_of xs m
 
+-- a number that has no first place gets this one
+abbrev pub AddsFirst : ℕ → ℕ → List (Option ℕ) → List (Option ℕ) → Type 0
+AddsFirst number place old new = (m : ℕ) → value_at new m ≡ option_or (value_at old m) (if number == m then Some place else None)
+
 -- the first place of a number, if there is one, by a table
 abbrev pub place_by : List (Option ℕ) → Option ℕ → Option ℕ
 place_by firsts None = None
@@ -137,9 +168,17 @@ module _ (names : List Text) where
   abbrev pub undefined_here : List Bool → Graph → Found → List spec.Finding
   undefined_here known holders o = if is_unknown known o then spec.undefined (name_by holders o.declaration) (name_in names o.name) ∷ [] else []
 
+  -- the same, by what the code has
+  abbrev pub undefined_seen : Vec Bool Global → Vec (Vec ℕ Global) Global → Occurrence → List spec.Finding
+  undefined_seen known holders o = undefined_here known.items (graph_view holders.items) (occurrence_view o)
+
   -- the use that an identifier is, if it is not defined
   abbrev pub use_here : List Bool → Graph → Found → List Use
   use_here known holders o = if is_unknown known o then use_at o.place (name_by holders o.declaration) (name_in names o.name) ∷ [] else []
+
+  -- the same, by what the code has
+  abbrev pub use_seen : Vec Bool Global → Vec (Vec ℕ Global) Global → Occurrence → List Use
+  use_seen known holders o = use_here known.items (graph_view holders.items) (occurrence_view o)
 
   -- those that these identifiers are
   abbrev pub uses_among : List Bool → Graph → List Found → List Use
@@ -150,9 +189,17 @@ module _ (names : List Text) where
   misfit_here holders j (misfit.ParamCount e k got) = spec.miscounted (name_by holders (Some j)) (name_in names e) k got
   misfit_here holders j (misfit.NotCallable e) = spec.not_callable (name_by holders (Some j)) (name_in names e)
 
+  -- those of these misfits
+  abbrev pub misfits_here : Graph → List (ℕ × Misfit) → List spec.Finding
+  misfits_here holders ms = map (λ p. misfit_here holders p.0 p.1) ms
+
   -- the same at its place
   abbrev pub misfitting_here : Graph → PlacedMisfit → Misfitting
   misfitting_here holders m = misfitting_at m.place (misfit_here holders m.declaration m.misfit)
+
+  -- those of these misfits
+  abbrev pub misfitting_among : Graph → List PlacedMisfit → List Misfitting
+  misfitting_among holders ms = map (misfitting_here holders) ms
 
   -- what is found of the number a, by the last on a way back to it: that it reaches itself; where there is no last one, nothing
   abbrev pub cycle_here : ℕ → Option ℕ → List spec.Finding
@@ -168,6 +215,10 @@ module _ (names : List Text) where
   abbrev pub member_of : List (Option ℕ) → List (Option ℕ) → ℕ × ℕ → List Member
   member_of closers firsts x = member_here x (value_at closers x.1) (place_by firsts (value_at closers x.1))
 
+  -- those that these names are
+  abbrev pub members_among : List (Option ℕ) → List (Option ℕ) → List (ℕ × ℕ) → List Member
+  members_among closers firsts xs = flat_map (member_of closers firsts) xs
+
 -- whether two numbers are there and are one
 abbrev pub are_one : Option ℕ → Option ℕ → Bool
 are_one (Some n) (Some m) = n == m
@@ -176,6 +227,18 @@ are_one _ _ = false
 -- whether two nodes have one group
 abbrev pub have_one_group : List (Option ℕ) → ℕ → ℕ → Bool
 have_one_group groups a b = are_one (value_at groups a) (value_at groups b)
+
+-- a node, if it has one group with another
+abbrev pub grouped_here : List (Option ℕ) → ℕ → ℕ → List ℕ
+grouped_here groups other node = if have_one_group groups other node then node ∷ [] else []
+
+-- the edges of a node that lead into its group
+abbrev pub edges_within : List (Option ℕ) → Graph → ℕ → List ℕ
+edges_within groups g n = filter (have_one_group groups n) (edges_at g n)
+
+-- of each node the first of these that closes a ring with it
+abbrev pub AreFirstClosers : Graph → List ℕ → List (Option ℕ) → Type 0
+AreFirstClosers g nodes closers = (n : ℕ) → IsFirst (IsRing g n) nodes (value_at closers n)
 
 -- of each node the first of these that closes a ring with it is kept; a node that is marked as taken is one of these
 pub record AreClosers (g : Graph) (nodes : List ℕ) (taken : List Bool) (closers : List (Option ℕ)) : Type 0 where

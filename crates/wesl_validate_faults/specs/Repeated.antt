@@ -36,6 +36,14 @@ abbrev pub with_first : List (ℕ × Text) → ℕ × Text → Option ℕ → Li
 with_first before x None = before ++ x ∷ []
 with_first before x (Some p) = before
 
+-- a name that stands after these is declared again, if it is one of them
+abbrev pub again_here : List (ℕ × Text) → ℕ × Text → List Repeated
+again_here before x = again_by x (first_of before x.1)
+
+-- these names with their first places, and one more
+abbrev pub with_name : List (ℕ × Text) → ℕ × Text → List (ℕ × Text)
+with_name before x = with_first before x (first_of before x.1)
+
 -- the names that stand before too, each where it stands again; `before` are those that stood so far, with their first places
 abbrev pub again_after : List (ℕ × Text) → List (ℕ × Text) → List Repeated
 again_after before [] = []

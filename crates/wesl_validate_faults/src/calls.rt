@@ -1,5 +1,5 @@
 //! Calls that fit nothing.
-ghost use Rattle.std.specs.Prelude.{◌≡◌, map, IfOk, IfErr};
+ghost use Rattle.std.specs.Prelude.{◌≡◌, IfOk, IfErr};
 ghost use Rattle.wesl_tree_names.specs.declared.errors.Error as error;
 ghost use Rattle.wesl_tree.specs.Translation.{unit_view};
 ghost use Rattle.wesl_scope_graph.specs.Graphs.{graph_view};
@@ -7,7 +7,7 @@ ghost use Rattle.wesl_scope_occurrences.specs.Identified.{identified};
 ghost use Rattle.wesl_scope_strip.specs.Declarations.{all};
 ghost use Rattle.wesl_validate_builtins.specs.Builtins.{builtins_view};
 ghost use Rattle.wesl_validate_faults.specs.Calls.{AreCallFindings};
-ghost use Rattle.wesl_validate_faults.specs.Gathered.{finding_view, findings_view, misfit_here};
+ghost use Rattle.wesl_validate_faults.specs.Gathered.{finding_view, findings_view, misfit_here, misfits_here};
 
 use crate::finding::Finding;
 use crate::once::each_once;
@@ -47,7 +47,7 @@ fn findings_of<'a>(
     holders: &Vec<Vec<usize>>,
     misfits: &Vec<(usize, Misfit)>,
 ) -> Result<Vec<Finding<'a>>, AllocError>
-    ensures { IfOk result (λ findings. findings_view findings.items ≡ map (λ p. misfit_here names.now (graph_view holders.now.items) p.0 p.1) misfits.now.items) }
+    ensures { IfOk result (λ r. findings_view r.items ≡ misfits_here names.now (graph_view holders.now.items) misfits.now.items) }
 {
     let mut findings = Vec::new(alloc);
     for entry in misfits {
@@ -67,7 +67,7 @@ pub(crate) fn call_findings<'a>(
     builtins: &Builtins,
 ) -> Result<Vec<Finding<'a>>, Error>
     requires known { identified found.now ≡ all (unit_view unit.now) }
-    ensures calls { IfOk result (λ findings. AreCallFindings (unit_view unit.now) (builtins_view builtins.now) (findings_view findings.items)) }
+    ensures calls { IfOk result (λ r. AreCallFindings (unit_view unit.now) (builtins_view builtins.now) (findings_view r.items)) }
     ensures refused { IfErr result (λ e. e ≡ error.Memory) }
 {
     let misses = misfits(alloc, unit, found, builtins)?;

@@ -1,14 +1,11 @@
 //! For each declaration the first that leads back to it.
-ghost use Rattle.std.specs.Prelude.{◌≡◌, ◌++◌, ◌∷◌, ℕ, true, List, [], if◌then◌else◌, IfOk, OnOk};
+ghost use Rattle.std.specs.Prelude.{◌≡◌, ◌++◌, true, IfOk, OnOk};
 ghost use Rattle.std.specs.List.{filter};
 ghost use Rattle.std.proofs.Common.{set};
-ghost use Rattle.wesl_scope_graph.specs.Graphs.{graph_view, edges_at, IsClosed};
+ghost use Rattle.wesl_scope_graph.specs.Graphs.{graph_view, IsClosed};
 ghost use Rattle.wesl_scope_graph.specs.Marks.{mark_at};
-ghost use Rattle.wesl_scope_values.specs.Values.{value_at};
 ghost use Rattle.wesl_scope_groups.specs.Groups.{AreGroups};
-ghost use Rattle.wesl_validate_rules.specs.Graphs.{IsRing};
-ghost use Rattle.wesl_validate_faults.specs.Gathered.{have_one_group, AreClosersNext};
-ghost use Rattle.wesl_validate_faults.specs.Listed.{IsFirst};
+ghost use Rattle.wesl_validate_faults.specs.Gathered.{AreClosersNext, AreFirstClosers, edges_within, grouped_here, have_one_group};
 
 use std::alloc::{AllocError, Global};
 use wesl_scope_groups::groups_of;
@@ -34,7 +31,7 @@ fn add_within(
     last: usize,
     node: usize,
 ) -> Result<(), AllocError>
-    ensures { IfOk result (λ _. within.new.items ≡ within.old.items ++ (if have_one_group groups.now.items last node then node ∷ [] else [])) }
+    ensures { IfOk result (λ _. within.new.items ≡ within.old.items ++ grouped_here groups.now.items last node) }
 {
     if have_one_group(groups, last, node) {
         within.push(node)?;
@@ -65,7 +62,7 @@ fn nodes_within(
     groups: &Vec<Option<usize>>,
     last: usize,
 ) -> Result<Vec<usize>, AllocError>
-    ensures { IfOk result (λ within. within.items ≡ filter (have_one_group groups.now.items last) (edges_at (graph_view graph.now.items) last)) }
+    ensures { IfOk result (λ within. within.items ≡ edges_within groups.now.items (graph_view graph.now.items) last) }
 {
     match graph.get(last) {
         None => Ok(Vec::new(alloc)),
@@ -117,7 +114,7 @@ pub(crate) fn closers_of(
     nodes: &Vec<usize>,
 ) -> Result<Vec<Option<usize>>, AllocError>
     requires { IsClosed (graph_view graph.now.items) }
-    ensures { IfOk result (λ closers. (n : ℕ) → IsFirst (IsRing (graph_view graph.now.items) n) nodes.now.items (value_at closers.items n)) }
+    ensures { IfOk result (λ closers. AreFirstClosers (graph_view graph.now.items) nodes.now.items closers.items) }
 {
     let groups = groups_of(alloc, graph)?;
     let mut taken = vec![in alloc; false; graph.len()]?;

@@ -1,9 +1,10 @@
 //! Declarations that reach themselves.
-ghost use Rattle.std.specs.Prelude.{◌≡◌, ◌++◌, map, IfOk};
+ghost use Rattle.std.specs.Prelude.{◌≡◌, ◌++◌, IfOk};
 ghost use Rattle.wesl_tree_syntax.specs.Unit.{UnitView};
 ghost use Rattle.wesl_scope_graph.specs.Graphs.{graph_view, IsClosed};
 ghost use Rattle.wesl_scope_occurrences.specs.Views.{occurrence_view};
 ghost use Rattle.wesl_validate_rules.specs.Known.{IsNamedBy};
+ghost use Rattle.wesl_validate_calls.specs.Views.{found_view};
 ghost use Rattle.wesl_validate_faults.specs.Gathered.{AreAdded, AddsCycles, findings_view, declared_here, declared_among, cycle_here, AddsRings};
 
 use crate::closers::closers_of;
@@ -26,7 +27,7 @@ fn add_declared(declared: &mut Vec<usize>, occurrence: &Occurrence<'_>) -> Resul
 
 /// The numbers of the names of imports and declarations, in document order.
 fn declared_numbers(alloc: Global, found: &Identifiers<'_>) -> Result<Vec<usize>, AllocError>
-    ensures { IfOk result (λ declared. declared.items ≡ declared_among (map occurrence_view found.now.all.items)) }
+    ensures { IfOk result (λ declared. declared.items ≡ declared_among (found_view found.now)) }
 {
     let mut declared = Vec::new(alloc);
     for occurrence in &found.all {

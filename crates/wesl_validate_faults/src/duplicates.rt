@@ -1,13 +1,10 @@
 //! Names that are declared again.
-ghost use Rattle.std.specs.Prelude.{◌≡◌, ◌∷◌, [], bytes_eq, map, if◌then◌else◌, IfOk};
-ghost use Rattle.std.specs.List.{list_any};
+ghost use Rattle.std.specs.Prelude.{◌≡◌, [], IfOk};
 ghost use Rattle.wesl_tree_base.specs.Borrowed.{texts};
 ghost use Rattle.wesl_tree_interner.specs.Interned.{with_text};
-ghost use Rattle.wesl_tree_syntax.specs.Unit.{name_in};
 ghost use Rattle.wesl_tree.specs.Translation.{unit_view};
-ghost use Rattle.wesl_validate_faults.specs.Findings.{duplicate};
-ghost use Rattle.wesl_validate_faults.specs.Gathered.{AreAdded};
-ghost use Rattle.wesl_validate_faults.specs.Listed.{duplicates, repeated_after};
+ghost use Rattle.wesl_validate_faults.specs.Gathered.{AreAdded, duplicate_after, duplicates_among};
+ghost use Rattle.wesl_validate_faults.specs.Listed.{duplicates};
 
 use crate::finding::Finding;
 use indexmap::IndexSet;
@@ -23,7 +20,7 @@ fn add_repeated<'a>(
     name: &'a str,
 ) -> Result<(), AllocError>
     ensures seen { IfOk result (λ _. texts seen.new.keys ≡ with_text (texts seen.old.keys) name.now) }
-    ensures added { IfOk result (λ _. AreAdded findings.old.items findings.new.items (if list_any (bytes_eq name.now) (texts seen.old.keys) then duplicate name.now ∷ [] else [])) }
+    ensures added { IfOk result (λ _. AreAdded findings.old.items findings.new.items (duplicate_after (texts seen.old.keys) name.now)) }
 {
     let (_, is_new) = seen.insert_full(name)?;
     if !is_new {
@@ -40,7 +37,7 @@ fn add_all_repeated<'a>(
     numbers: &Vec<usize>,
 ) -> Result<(), AllocError>
     requires { seen.old.keys ≡ [] }
-    ensures { IfOk result (λ _. AreAdded findings.old.items findings.new.items (map duplicate (repeated_after [] (map (name_in names.now) numbers.now.items)))) }
+    ensures { IfOk result (λ _. AreAdded findings.old.items findings.new.items (duplicates_among names.now numbers.now.items)) }
 {
     for number in numbers {
         add_repeated(findings, seen, name_of(names, *number))?;

@@ -1,12 +1,12 @@
 //! Declarations that reach themselves, each with its place.
-ghost use Rattle.std.specs.Prelude.{◌≡◌, ◌↔◌, ◌++◌, ◌==◌, ℕ, Some, None, [], flat_map, map, if◌then◌else◌, IfOk, IfErr};
-ghost use Rattle.std.specs.Option.{option_or};
+ghost use Rattle.std.specs.Prelude.{◌≡◌, ◌↔◌, ◌++◌, ℕ, [], map, IfOk, IfErr};
 ghost use Rattle.wesl_tree_names.specs.declared.errors.Error as error;
 ghost use Rattle.wesl_tree.specs.Translation.{unit_view};
 ghost use Rattle.wesl_scope_occurrences.specs.Views.{occurrence_view};
 ghost use Rattle.wesl_scope_values.specs.Values.{value_at};
 ghost use Rattle.wesl_validate_rules.specs.Valid.{IsAcyclic};
-ghost use Rattle.wesl_validate_faults.specs.Gathered.{members_view, member_here, member_of, placed_here, placed_among, place_of, place_by};
+ghost use Rattle.wesl_validate_calls.specs.Views.{found_view};
+ghost use Rattle.wesl_validate_faults.specs.Gathered.{AddsFirst, AddsMembers, member_here, members_among, members_view, place_by, place_of, placed_among, placed_here};
 ghost use Rattle.wesl_validate_faults.specs.Members.{AreMembers};
 
 use crate::closers::closers_of;
@@ -45,7 +45,7 @@ fn add_placed(
 
 /// The names of imports and declarations by their places and their numbers, in document order.
 fn placed_names(alloc: Global, found: &Identifiers<'_>) -> Result<Vec<(usize, usize)>, AllocError>
-    ensures { IfOk result (λ placed. placed.items ≡ placed_among (map occurrence_view found.now.all.items)) }
+    ensures { IfOk result (λ placed. placed.items ≡ placed_among (found_view found.now)) }
 {
     let mut placed = Vec::new(alloc);
     for occurrence in &found.all {
@@ -72,7 +72,7 @@ fn note_place(
     place: usize,
     number: usize,
 ) -> Result<(), AllocError>
-    ensures { IfOk result (λ _. (m : ℕ) → value_at firsts.new.items m ≡ option_or (value_at firsts.old.items m) (if number == m then Some place else None)) }
+    ensures { IfOk result (λ _. AddsFirst number place firsts.old.items firsts.new.items) }
 {
     let mut nodes = Vec::new(alloc);
     nodes.push(number)?;
@@ -113,7 +113,7 @@ fn add_member<'a>(
     last: Option<usize>,
     place: Option<usize>,
 ) -> Result<(), AllocError>
-    ensures { IfOk result (λ _. members_view members.new.items ≡ members_view members.old.items ++ member_here names.now entry last place) }
+    ensures { IfOk result (λ _. AddsMembers (member_here names.now entry last place) members.old members.new) }
 {
     match last {
         None => Ok(()),
@@ -140,7 +140,7 @@ fn members_of<'a>(
     firsts: &Vec<Option<usize>>,
     placed: &Vec<(usize, usize)>,
 ) -> Result<Vec<RingMember<'a>>, AllocError>
-    ensures { IfOk result (λ members. members_view members.items ≡ flat_map (member_of names.now closers.now.items firsts.now.items) placed.now.items) }
+    ensures { IfOk result (λ r. members_view r.items ≡ members_among names.now closers.now.items firsts.now.items placed.now.items) }
 {
     let mut members = Vec::new(alloc);
     for entry in placed {

@@ -1,11 +1,11 @@
 //! Calls that fit nothing, each with its place.
-ghost use Rattle.std.specs.Prelude.{◌≡◌, ◌↔◌, [], map, IfOk, IfErr};
+ghost use Rattle.std.specs.Prelude.{◌≡◌, ◌↔◌, [], IfOk, IfErr};
 ghost use Rattle.wesl_tree_names.specs.declared.errors.Error as error;
 ghost use Rattle.wesl_tree.specs.Translation.{unit_view};
 ghost use Rattle.wesl_scope_graph.specs.Graphs.{graph_view};
 ghost use Rattle.wesl_validate_builtins.specs.Builtins.{builtins_view};
 ghost use Rattle.wesl_validate_rules.specs.Valid.{IsFitting};
-ghost use Rattle.wesl_validate_faults.specs.Gathered.{counts_of, misfitting_here, misfitting_seen, misfitting_view, name_number};
+ghost use Rattle.wesl_validate_faults.specs.Gathered.{counts_of, misfitting_among, misfitting_here, misfitting_seen, misfitting_view, name_number};
 ghost use Rattle.wesl_validate_faults.specs.Misfitting.{AreMisfitting};
 
 use crate::laws::law_of_misfit_calls;
@@ -80,7 +80,7 @@ fn misfit_calls_of<'a>(
     holders: &Vec<Vec<usize>>,
     misfits: &Vec<PlacedMisfit>,
 ) -> Result<Vec<MisfitCall<'a>>, AllocError>
-    ensures { IfOk result (λ calls. misfitting_view calls.items ≡ map (misfitting_here names.now (graph_view holders.now.items)) misfits.now.items) }
+    ensures { IfOk result (λ r. misfitting_view r.items ≡ misfitting_among names.now (graph_view holders.now.items) misfits.now.items) }
 {
     let mut calls = Vec::new(alloc);
     for misfit in misfits {

@@ -1,11 +1,11 @@
 //! Names that are declared again, each with its place.
-ghost use Rattle.std.specs.Prelude.{◌≡◌, ◌↔◌, ◌++◌, [], IfOk, IfErr};
+ghost use Rattle.std.specs.Prelude.{◌≡◌, ◌↔◌, [], IfOk, IfErr};
 ghost use Rattle.wesl_tree_names.specs.declared.errors.Error as error;
 ghost use Rattle.wesl_tree_syntax.specs.Unit.{UnitView, numbers};
 ghost use Rattle.wesl_tree.specs.Translation.{unit_view};
 ghost use Rattle.wesl_validate_rules.specs.Valid.{AreDistinct};
-ghost use Rattle.wesl_validate_faults.specs.Gathered.{AddsRepeated, firsts_view, repeated_view};
-ghost use Rattle.wesl_validate_faults.specs.Repeated.{again_by, first_of, repeated, with_first};
+ghost use Rattle.wesl_validate_faults.specs.Gathered.{AddsRepeated, PutsAgain, firsts_view, repeated_view};
+ghost use Rattle.wesl_validate_faults.specs.Repeated.{again_here, repeated, with_name};
 
 use crate::laws::law_of_repeated_names;
 use crate::placed::{numbers_of_all, placed};
@@ -35,8 +35,8 @@ fn add_repeated<'a>(
     place: usize,
     name: &'a str,
 ) -> Result<(), AllocError>
-    ensures noted { IfOk result (λ _. firsts_view firsts.new.entries ≡ with_first (firsts_view firsts.old.entries) (place, name.now) (first_of (firsts_view firsts.old.entries) name.now)) }
-    ensures added { IfOk result (λ _. repeated_view repeated.new.items ≡ repeated_view repeated.old.items ++ again_by (place, name.now) (first_of (firsts_view firsts.old.entries) name.now)) }
+    ensures noted { IfOk result (λ _. firsts_view firsts.new.entries ≡ with_name (firsts_view firsts.old.entries) (place, name.now)) }
+    ensures added { IfOk result (λ _. PutsAgain (again_here (firsts_view firsts.old.entries) (place, name.now)) repeated.old repeated.new) }
 {
     match firsts.get(name) {
         Some(first) => {

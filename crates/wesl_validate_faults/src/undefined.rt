@@ -1,5 +1,5 @@
 //! References that are not defined.
-ghost use Rattle.std.specs.Prelude.{◌≡◌, ◌<◌, ◌++◌, ℕ, length, map, IfOk};
+ghost use Rattle.std.specs.Prelude.{◌≡◌, ◌<◌, ℕ, length, IfOk};
 ghost use Rattle.std.specs.List.{All};
 ghost use Rattle.std.specs.Option.{option_map};
 ghost use Rattle.wesl_tree_syntax.specs.Unit.{UnitView};
@@ -7,7 +7,8 @@ ghost use Rattle.wesl_scope_graph.specs.Graphs.{graph_view, edges_at};
 ghost use Rattle.wesl_scope_occurrences.specs.Views.{occurrence_view};
 ghost use Rattle.wesl_validate_builtins.specs.Builtins.{builtins_view};
 ghost use Rattle.wesl_validate_rules.specs.Known.{IsNamedBy};
-ghost use Rattle.wesl_validate_faults.specs.Gathered.{AreAdded, named_here, named_in, name_by, undefined_here};
+ghost use Rattle.wesl_validate_calls.specs.Views.{found_view};
+ghost use Rattle.wesl_validate_faults.specs.Gathered.{AddsHolder, AreAdded, name_by, named_in, undefined_seen};
 ghost use Rattle.wesl_validate_faults.specs.Listed.{undefineds};
 
 use crate::finding::Finding;
@@ -25,7 +26,7 @@ fn add_holder(
     holders: &mut Vec<Vec<usize>>,
     occurrence: &Occurrence<'_>,
 ) -> Result<(), AllocError>
-    ensures { IfOk result (λ _. (j : ℕ) → edges_at (graph_view holders.new.items) j ≡ edges_at (graph_view holders.old.items) j ++ named_here j (occurrence_view occurrence.now)) }
+    ensures { IfOk result (λ _. AddsHolder (occurrence_view occurrence.now) holders.old holders.new) }
 {
     if !occurrence.standing.is_module_name() {
         return Ok(());
@@ -41,7 +42,7 @@ pub(crate) fn holders_of(
     alloc: Global,
     found: &Identifiers<'_>,
 ) -> Result<Vec<Vec<usize>>, AllocError>
-    ensures { IfOk result (λ holders. (j : ℕ) → edges_at (graph_view holders.items) j ≡ named_in (map occurrence_view found.now.all.items) j) }
+    ensures { IfOk result (λ holders. (j : ℕ) → edges_at (graph_view holders.items) j ≡ named_in (found_view found.now) j) }
 {
     let mut holders = Vec::new(alloc);
     for occurrence in &found.all {
@@ -78,7 +79,7 @@ fn add_undefined<'a>(
     holders: &Vec<Vec<usize>>,
     occurrence: &Occurrence<'_>,
 ) -> Result<(), AllocError>
-    ensures { IfOk result (λ _. AreAdded findings.old.items findings.new.items (undefined_here names.now known.now.items (graph_view holders.now.items) (occurrence_view occurrence.now))) }
+    ensures { IfOk result (λ _. AreAdded findings.old.items findings.new.items (undefined_seen names.now known.now holders.now occurrence.now)) }
 {
     if is_unknown(occurrence, known) {
         let holder = name_round(names, holders, occurrence.declaration);

@@ -1,13 +1,12 @@
 //! References that are not defined, each with its place.
-ghost use Rattle.std.specs.Prelude.{◌≡◌, ◌↔◌, ◌<◌, ◌++◌, [], length, map, IfOk, IfErr};
-ghost use Rattle.std.specs.List.{All};
+ghost use Rattle.std.specs.Prelude.{◌≡◌, ◌↔◌, [], IfOk, IfErr};
 ghost use Rattle.wesl_tree_names.specs.declared.errors.Error as error;
 ghost use Rattle.wesl_tree.specs.Translation.{unit_view};
 ghost use Rattle.wesl_scope_graph.specs.Graphs.{graph_view};
-ghost use Rattle.wesl_scope_occurrences.specs.Views.{occurrence_view};
 ghost use Rattle.wesl_validate_builtins.specs.Builtins.{builtins_view};
 ghost use Rattle.wesl_validate_rules.specs.Valid.{IsDefined};
-ghost use Rattle.wesl_validate_faults.specs.Gathered.{uses_view, use_here, uses_among};
+ghost use Rattle.wesl_validate_calls.specs.Views.{found_view};
+ghost use Rattle.wesl_validate_faults.specs.Gathered.{AddsUses, use_seen, uses_among, uses_view};
 ghost use Rattle.wesl_validate_faults.specs.Uses.{undefined_uses};
 
 use crate::laws::law_of_undefined_uses;
@@ -38,7 +37,7 @@ fn add_use<'a>(
     holders: &Vec<Vec<usize>>,
     occurrence: &Occurrence<'_>,
 ) -> Result<(), AllocError>
-    ensures { IfOk result (λ _. uses_view uses.new.items ≡ uses_view uses.old.items ++ use_here names.now known.now.items (graph_view holders.now.items) (occurrence_view occurrence.now)) }
+    ensures { IfOk result (λ _. AddsUses (use_seen names.now known.now holders.now occurrence.now) uses.old uses.new) }
 {
     if is_unknown(occurrence, known) {
         uses.push(UndefinedUse {
@@ -58,7 +57,7 @@ fn uses_of<'a>(
     holders: &Vec<Vec<usize>>,
     found: &Identifiers<'_>,
 ) -> Result<Vec<UndefinedUse<'a>>, AllocError>
-    ensures { IfOk result (λ r. uses_view r.items ≡ uses_among names.now known.now.items (graph_view holders.now.items) (map occurrence_view found.now.all.items)) }
+    ensures { IfOk result (λ r. uses_view r.items ≡ uses_among names.now known.now.items (graph_view holders.now.items) (found_view found.now)) }
 {
     let mut uses = Vec::new(alloc);
     for occurrence in &found.all {

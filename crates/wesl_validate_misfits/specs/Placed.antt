@@ -1,6 +1,8 @@
 -- All calls of a module that fit nothing, each with the place of the name that is called.
 use Rattle.std.specs.Prelude.{◌≡◌, ℕ, Option, Some, None, List, [], ◌∷◌, ◌++◌, get_or, map}
 use Rattle.wesl_tree_syntax.specs.Unit.{UnitView}
+use Rattle.wesl_tree.specs.Translation.{unit_view}
+use Rattle.wesl_tree.specs.declared.unit.TranslationUnit.{TranslationUnit}
 use Rattle.wesl_validate_builtins.specs.Builtins.{BuiltinNames}
 use Rattle.wesl_validate_rules.specs.Calls.{CallOf}
 use Rattle.wesl_validate_calls.specs.Made.{call_told}
@@ -32,3 +34,7 @@ module _ (u : UnitView) (b : BuiltinNames) (numbers : List ℕ) where
   -- those of a whole module in which the numbers of identifiers are places
   abbrev pub ArePlaced : UnitView → List PlacedMisfit → Type 0
   ArePlaced placed ms = ArePlacedAmong (all_calls placed) ms
+
+-- so of these calls of a module, as the code has it
+abbrev pub HasPlaced : TranslationUnit → BuiltinNames → List ℕ → List (ℕ × CallOf ℕ) → List PlacedMisfit → Type 0
+HasPlaced unit b numbers cs ms = ArePlacedAmong (unit_view unit) b numbers cs ms

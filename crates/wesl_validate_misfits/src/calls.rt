@@ -1,9 +1,9 @@
 //! The calls of a module.
-ghost use Rattle.std.specs.Prelude.{◌≡◌, ◌++◌, map, IfOk, IfErr};
+ghost use Rattle.std.specs.Prelude.{◌≡◌, ◌++◌, IfOk, IfErr};
 ghost use Rattle.wesl_tree_names.specs.declared.errors.Error as error;
 ghost use Rattle.wesl_tree.specs.Translation.{unit_view};
-ghost use Rattle.wesl_validate_calls.specs.Made.{call_told};
-ghost use Rattle.wesl_validate_calls.specs.Verdicts.{all_calls, numbered};
+ghost use Rattle.wesl_validate_calls.specs.Verdicts.{all_calls};
+ghost use Rattle.wesl_validate_calls.specs.Views.{numbered_calls};
 ghost use Rattle.wesl_validate_misfits.specs.Placed.{calls_view};
 
 use std::alloc::{AllocError, Global};
@@ -17,7 +17,7 @@ fn add_calls(
     declaration: usize,
     found: &Vec<Call>,
 ) -> Result<(), AllocError>
-    ensures { IfOk result (λ _. calls_view calls.new.items ≡ calls_view calls.old.items ++ numbered declaration (map call_told found.now.items)) }
+    ensures { IfOk result (λ _. calls_view calls.new.items ≡ calls_view calls.old.items ++ numbered_calls declaration found.now) }
 {
     for call in found {
         calls.push((declaration, *call))?;

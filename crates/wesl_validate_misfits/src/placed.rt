@@ -5,11 +5,10 @@ ghost use Rattle.wesl_tree.specs.Translation.{unit_view};
 ghost use Rattle.wesl_scope_occurrences.specs.Identified.{identified};
 ghost use Rattle.wesl_scope_strip.specs.Declarations.{all};
 ghost use Rattle.wesl_validate_builtins.specs.Builtins.{builtins_view};
-ghost use Rattle.wesl_validate_calls.specs.Ends.{AreEnds};
 ghost use Rattle.wesl_validate_calls.specs.Made.{call_told};
 ghost use Rattle.wesl_validate_calls.specs.Tables.{AreTables};
-ghost use Rattle.wesl_validate_calls.specs.Views.{ends_view, tables_view};
-ghost use Rattle.wesl_validate_misfits.specs.Placed.{ArePlaced, ArePlacedAmong, call_there, calls_view, placed_misfit};
+ghost use Rattle.wesl_validate_calls.specs.Views.{AreEndsIn, builtins_in, tables_view};
+ghost use Rattle.wesl_validate_misfits.specs.Placed.{ArePlaced, HasPlaced, call_there, calls_view, placed_misfit};
 
 use crate::calls::all_calls;
 use std::alloc::{AllocError, Global};
@@ -84,8 +83,8 @@ fn placed_of(
     calls: &Vec<(usize, Call)>,
 ) -> Result<Vec<PlacedMisfit>, AllocError>
     requires tables { AreTables (unit_view unit.now) (tables_view tables.now) }
-    requires ends { AreEnds (tables_view tables.now) (unit_view unit.now).names (builtins_view callables.now.builtins.now) (ends_view ends.now) }
-    ensures { IfOk result (λ r. ArePlacedAmong (unit_view unit.now) (builtins_view callables.now.builtins.now) numbers.now.items (calls_view calls.now.items) r.items) }
+    requires ends { AreEndsIn tables.now (unit_view unit.now).names callables.now ends.now }
+    ensures { IfOk result (λ r. HasPlaced unit.now (builtins_in callables.now) numbers.now.items (calls_view calls.now.items) r.items) }
 {
     let mut misfits = Vec::new(alloc);
     for entry in calls {
