@@ -64,8 +64,7 @@ fn write_nodes(
 pub fn write_chain(out: &mut Writer, told: &Explanation, chain: &Chain) -> Result<(), AllocError> {
     out.key("chain")?;
     out.begin_array()?;
-    write_nodes(out, told, &chain.first)?;
-    write_nodes(out, told, &chain.last)?;
+    write_nodes(out, told, chain.items())?;
     out.end_array()
 }
 

@@ -223,8 +223,7 @@ fn write_symbols(
 ) -> Result<(), AllocError> {
     out.key(key)?;
     out.begin_array()?;
-    write_all(out, told, &symbols.first)?;
-    write_all(out, told, &symbols.last)?;
+    write_all(out, told, symbols.items())?;
     out.end_array()
 }
 
@@ -299,7 +298,7 @@ fn write_link(
     write_member(out, value, "args")?;
     write_uses(out, alloc, told, link)?;
     write_conditions(out, alloc, &fault.conditions)?;
-    write_cures(out, &link.cures)?;
+    write_cures(out, link.cures)?;
     write_member(out, value, "fault")?;
     write_home(out, told, value, link)?;
     write_near(out, told, fault, link)?;

@@ -65,16 +65,14 @@ pub fn told_of(alloc: Global, bytes: &[u8], form: Form<'_>) -> Result<Told, Allo
     ensures { IfOk result (IsToldOf bytes.now) }
 {
     let explanation = explained(alloc, bytes)?;
-    let text = form_of(alloc, &explanation, form)?;
-    Ok(Told {
-        is_linked: explanation.faults.is_empty(),
-        text,
-    })
+    let is_linked = explanation.faults.is_empty();
+    let text = form_of(alloc, explanation, form)?;
+    Ok(Told { is_linked, text })
 }
 
-fn form_of(alloc: Global, told: &Explanation, form: Form<'_>) -> Result<String, AllocError> {
+fn form_of(alloc: Global, told: Explanation, form: Form<'_>) -> Result<String, AllocError> {
     match form {
-        Form::Json => json_of(alloc, told),
+        Form::Json => json_of(alloc, &told),
         Form::Drawn(graph) => graph_of(alloc, told, graph),
         Form::Text(shown) => {
             let places = Places {
@@ -82,7 +80,7 @@ fn form_of(alloc: Global, told: &Explanation, form: Form<'_>) -> Result<String, 
                 held: &[],
                 unused: &[],
             };
-            text_of(alloc, told, shown, places)
+            text_of(alloc, &told, shown, places)
         }
     }
 }

@@ -9,14 +9,14 @@ use Rattle.wesl_link_symbols.specs.Index.{Chains, HasAt, IsKeyed, IsLast}
 use Rattle.wesl_link_symbols.specs.Keyed.{Puts, PutsKey}
 use Rattle.wesl_link_symbols.proofs.Indexing.{chains_more, last_of}
 use Rattle.wesl_link_symbols.proofs.Lists.{at_contains, contains_at, contains_nil, one_at}
-use Rattle.wesl_link_faults.specs.declared.asker.Asker.{Asker}
+use Rattle.wesl_link_flaws.specs.declared.asker.Asker.{Asker}
 use Rattle.wesl_link_faults.specs.declared.open.Finding.{Finding}
 use Rattle.wesl_link_reach.specs.Faults.{AreDistinct}
-use Rattle.wesl_link_faults.proofs.Over.{IsOver, all, next, over_with, start, within}
+use Rattle.wesl_link_flaws.proofs.Over.{IsOver, all, next, over_with, start, within}
 use Rattle.wesl_explain_faults.specs.declared.faults.FaultAt.{FaultAt}
 use Rattle.wesl_explain_faults.specs.declared.faults.Wrong.{Wrong}
 use Rattle.wesl_explain_faults.specs.Gathering.{AreAskers, AreWrongs, HaveAskers, IsFoundIn, wrong_in}
-use Rattle.wesl_link_faults.proofs.Searching.{puts_cases, puts_keep}
+use Rattle.wesl_link_flaws.proofs.Searching.{puts_cases, puts_keep}
 use Rattle.wesl_link_reach.proofs.Following.{puts_has}
 
 -- that one asks for the fault in one of the findings

@@ -2,7 +2,7 @@
 use Rattle.std.specs.Prelude.{◌≡◌, List, map}
 use Rattle.wesl_link_symbols.specs.declared.ids.PathId.{PathId}
 use Rattle.wesl_tree_base.specs.declared.ids.NameId.{NameId}
-use Rattle.wesl_link_faults.specs.declared.asker.Asker.{Asker}
+use Rattle.wesl_link_flaws.specs.declared.asker.Asker.{Asker}
 use Rattle.wesl_link_faults.specs.declared.open.Finding.{Finding}
 use Rattle.wesl_explain_faults.specs.Gathering.{AreGathered}
 use Rattle.wesl_explain_faults.specs.declared.faults.FaultAt.{FaultAt}

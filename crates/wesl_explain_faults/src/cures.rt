@@ -1,7 +1,6 @@
 //! What helps against a fault of a link.
 
-use std::alloc::{AllocError, Global};
-use wesl_link_faults::told::Flaw;
+use wesl_link_flaws::told::Flaw;
 use wesl_link_symbols::ids::NameId;
 
 /// What helps against a fault of a link.
@@ -24,7 +23,7 @@ pub enum FaultCure {
 }
 
 /// What helps where a name is wrong.
-fn cures_of_name(flaw: Flaw<NameId>) -> &'static [FaultCure] {
+pub fn cures_of(flaw: Flaw<NameId>) -> &'static [FaultCure] {
     match flaw {
         Flaw::Clash(_) => &[FaultCure::Rename, FaultCure::Condition],
         Flaw::NoModule => &[],
@@ -32,14 +31,4 @@ fn cures_of_name(flaw: Flaw<NameId>) -> &'static [FaultCure] {
         Flaw::Hidden(_) => &[FaultCure::Publish],
         Flaw::Unsure(_) => &[FaultCure::Features, FaultCure::Condition],
     }
-}
-
-/// These cures in a list.
-pub fn listed(alloc: Global, cures: &[FaultCure]) -> Result<Vec<FaultCure>, AllocError> {
-    Vec::from_slice(alloc, cures)
-}
-
-/// What helps where a name is wrong, in a list.
-pub fn cures_of(alloc: Global, flaw: Flaw<NameId>) -> Result<Vec<FaultCure>, AllocError> {
-    listed(alloc, cures_of_name(flaw))
 }

@@ -7,10 +7,10 @@ ghost use Rattle.wesl_explain_faults.specs.Gathering.{AreAskers, AreGathered, Ar
 
 use std::alloc::{AllocError, Global};
 use std::collections::HashMap;
-use wesl_link_faults::asker::Asker;
-use wesl_link_faults::keys;
 use wesl_link_faults::open::{Fault, Finding};
-use wesl_link_faults::told::Flaw;
+use wesl_link_flaws::asker::Asker;
+use wesl_link_flaws::keys;
+use wesl_link_flaws::told::Flaw;
 use wesl_link_symbols::ids::{NameId, PathId};
 use wesl_link_symbols::keyed::{self, Identity};
 
@@ -163,19 +163,32 @@ fn add_askers(
     Ok(())
 }
 
-/// A fault with all that ask for it, in the order in which they were found.
+/// All that ask for a fault, in the order in which they were found.
+fn askers_of(
+    alloc: Global,
+    ties: &Ties<'_>,
+    wrong: Wrong,
+) -> Result<Vec<Asker<PathId, NameId>>, AllocError>
+    requires { AreTies ties.now }
+    ensures { IfOk result (λ askers. AreAskers ties.now.told.now wrong askers.items) }
+{
+    let mut askers = Vec::new(alloc);
+    add_askers(ties, wrong, &mut askers)?;
+    askers.reverse();
+    Ok(askers)
+}
+
+/// A fault with all that ask for it. They have no room to spare, since faults are many.
 fn fault_at(alloc: Global, ties: &Ties<'_>, wrong: Wrong) -> Result<FaultAt, AllocError>
     requires { AreTies ties.now }
     ensures wrong { IfOk result (λ g. g.wrong ≡ wrong) }
     ensures askers { IfOk result (λ g. AreAskers ties.now.told.now g.wrong g.askers.items) }
 {
-    let mut askers = Vec::new(alloc);
-    add_askers(ties, wrong, &mut askers)?;
-    askers.reverse();
+    let askers = askers_of(alloc, ties, wrong)?;
     Ok(FaultAt {
         wrong,
         absence: ties.absence_of(wrong),
-        askers,
+        askers: Vec::from_slice(alloc, &askers)?,
     })
 }
 
@@ -185,7 +198,7 @@ fn gather(alloc: Global, ties: &Ties<'_>, wrongs: &[Wrong]) -> Result<Vec<FaultA
     ensures same { IfOk result (λ gs. map wrong_at gs.items ≡ wrongs.now) }
     ensures askers { IfOk result (λ gs. HaveAskers ties.now.told.now gs.items) }
 {
-    let mut faults = Vec::new(alloc);
+    let mut faults = Vec::with_capacity(alloc, wrongs.len())?;
     for wrong in wrongs {
         faults.push(fault_at(alloc, ties, *wrong)?)?;
     }

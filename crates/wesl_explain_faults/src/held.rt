@@ -1,13 +1,13 @@
 //! What is held in a link that goes on behind its faults, and who asked for each first.
 ghost use Rattle.std.specs.Prelude.{◌≡◌};
-ghost use Rattle.wesl_link_faults.specs.Searching.{IsReady};
+ghost use Rattle.wesl_link_flaws.specs.Searching.{IsReady};
 
 use std::alloc::{AllocError, Global};
 use std::collections::HashMap;
 use wesl_cond_choices::place::Place;
-use wesl_explain_ways::{Chain, Depths};
-use wesl_link_faults::given::{Given, ask};
-use wesl_link_faults::told::End;
+use wesl_explain_ways::{Chain, Depths, whoever_asks};
+use wesl_link_flaws::given::{Given, ask};
+use wesl_link_flaws::told::End;
 use wesl_link_reasons::found::Found;
 use wesl_link_reasons::node::Node;
 use wesl_link_symbols::ids::{NameId, PathId};
@@ -23,7 +23,8 @@ pub struct HeldNodes {
     depths: Depths,
 }
 
-/// A search for what is held, and the look-ups that walks came to, each with the node for which the first did.
+/// A search for what is held, and the look-ups that walks came to, each with the node for which the first did. Those of other
+/// modules are one.
 #[derive(Drop)]
 struct Search {
     held: HeldNodes,
@@ -120,10 +121,11 @@ impl Search {
     {
         let mut current = start;
         for _hop in 0..usize::MAX {
-            if keyed::value_at(&self.passed, current).is_some() {
+            let asked = whoever_asks(current);
+            if keyed::value_at(&self.passed, asked).is_some() {
                 return Ok(());
             }
-            keyed::put(&mut self.passed, current, place)?;
+            keyed::put(&mut self.passed, asked, place)?;
             self.held.note(Node::Module(current.path), Some(place))?;
             match given.hop(current) {
                 Ok(next) => current = next,

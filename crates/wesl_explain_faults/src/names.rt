@@ -1,10 +1,10 @@
 //! What is told of a name that is missing: a name that is near.
 ghost use Rattle.std.specs.Prelude.{◌≡◌};
-ghost use Rattle.wesl_link_faults.specs.Searching.{IsReady};
+ghost use Rattle.wesl_link_flaws.specs.Searching.{IsReady};
 
 use std::alloc::{AllocError, Global};
 use wesl_explain_names::{NearNames, Texts, only_declared};
-use wesl_link_faults::given::Given;
+use wesl_link_flaws::given::Given;
 use wesl_link_symbols::ids::{NameId, PathId};
 use wesl_link_symbols::symbols::Symbol;
 

@@ -1,7 +1,7 @@
 //! A refused link: its faults with all that is told of each, and what was held until then.
 ghost use Rattle.std.specs.Prelude.{◌≡◌, map, IfOk};
 ghost use Rattle.wesl_link_reach.specs.Laws.{IsClear};
-ghost use Rattle.wesl_link_faults.specs.Searching.{IsReady};
+ghost use Rattle.wesl_link_flaws.specs.Searching.{IsReady};
 ghost use Rattle.wesl_explain_faults.specs.Told.{AreTold, fault_view, link_view};
 
 use crate::cures::{FaultCure, cures_of};
@@ -15,10 +15,10 @@ use std::collections::HashMap;
 use wesl_explain_names::{NearNames, Texts};
 use wesl_explain_places::ReadModules;
 use wesl_explain_ways::{Rings, Way, no_way};
-use wesl_link_faults::asker::Asker;
-use wesl_link_faults::given::{Given, place_all};
 use wesl_link_faults::open::Finding;
-use wesl_link_faults::told::Flaw;
+use wesl_link_flaws::asker::Asker;
+use wesl_link_flaws::given::{Given, place_all};
+use wesl_link_flaws::told::Flaw;
 use wesl_link_symbols::ids::{NameId, PathId};
 use wesl_link_symbols::symbols::Symbol;
 use wesl_link_symbols::table::Table;
@@ -38,7 +38,7 @@ pub struct LinkFault {
     /// What the name may stand for.
     pub targets: Vec<Target>,
     /// What helps.
-    pub cures: Vec<FaultCure>,
+    pub cures: &'static [FaultCure],
 }
 
 /// What was loaded and held until a link was refused.
@@ -149,7 +149,6 @@ fn told_of(
     let is_ring = !way.ring.is_empty();
     let near = near_of(alloc, given, texts, &mut seen.near, fault.wrong, is_ring)?;
     let targets = targets_at(alloc, given, read, fault.wrong)?;
-    let cures = cures_of(alloc, fault.wrong.flaw)?;
     Ok(LinkFault {
         wrong: fault.wrong,
         absence: fault.absence,
@@ -157,7 +156,7 @@ fn told_of(
         way,
         near,
         targets,
-        cures,
+        cures: cures_of(fault.wrong.flaw),
     })
 }
 

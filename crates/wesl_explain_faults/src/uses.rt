@@ -1,14 +1,14 @@
 //! Who asks for a fault, as it is told.
 ghost use Rattle.std.specs.Prelude.{◌≡◌, map, IfOk};
-ghost use Rattle.wesl_link_faults.specs.Searching.{IsReady};
+ghost use Rattle.wesl_link_flaws.specs.Searching.{IsReady};
 ghost use Rattle.wesl_explain_faults.specs.Told.{asker_in};
 
 use crate::held::HeldNodes;
 use std::alloc::{AllocError, Global};
 use wesl_cond_choices::place::Place;
 use wesl_explain_places::{ReadModules, identifier_of, span_of};
-use wesl_link_faults::asker::Asker;
-use wesl_link_faults::given::{Given, ask};
+use wesl_link_flaws::asker::Asker;
+use wesl_link_flaws::given::{Given, ask};
 use wesl_link_reasons::node::Node;
 use wesl_link_symbols::ids::{NameId, PathId};
 use wesl_link_symbols::symbols::{LookUp, Symbol};

@@ -5,17 +5,25 @@ use std::alloc::{AllocError, Global};
 use std::collections::HashMap;
 use wesl_cond_choices::place::Place;
 use wesl_explain_text::loaded_in;
-use wesl_explain_world::{Explanation, NameId, Node, PathId, Symbol};
-use wesl_link_faults::given::ask;
+use wesl_explain_world::{Explanation, NameId, Node, PathId, Symbol, whoever_asks};
+use wesl_link_flaws::given::ask;
 use wesl_link_symbols::keyed;
 use wesl_link_symbols::symbols::{Answer, LookUp};
 use wesl_link_symbols::table::{Declaration, Table};
 
-/// What is asked for: the look-ups of modules in the order in which they came, and which node holds which.
+/// What is asked for: the look-ups of modules in the order in which they came, wherever in their modules they ask from, and which
+/// node holds which.
 #[derive(Drop)]
 pub struct Asked {
     pub look_ups: Vec<LookUp<PathId, NameId>>,
-    pub held: Arrows,
+    pub held: Vec<Arrow>,
+}
+
+/// Look-ups in the order in which they came, each once.
+#[derive(Drop)]
+struct LookUps {
+    list: Vec<LookUp<PathId, NameId>>,
+    held: HashMap<LookUp<PathId, NameId>, bool>,
 }
 
 /// The modules of a link, and what was followed in it.
@@ -24,9 +32,10 @@ struct Walks<'t> {
     told: &'t Explanation,
     /// where the table of each path stands
     places: HashMap<PathId, usize>,
-    /// what a look-up leads to that was followed
+    /// what a look-up of a module leads to that was followed, whoever asks
     ends: HashMap<LookUp<PathId, NameId>, Option<Symbol<PathId, NameId>>>,
-    asked: Asked,
+    look_ups: LookUps,
+    held: Arrows,
 }
 
 /// The symbol tables of the modules that were loaded.
@@ -65,6 +74,34 @@ fn holds(told: &Explanation, path: PathId, name: Option<NameId>) -> bool {
     }
 }
 
+/// The same look-up wherever in its module it asks from.
+fn from_anywhere(look_up: LookUp<PathId, NameId>) -> LookUp<PathId, NameId> {
+    LookUp {
+        asker: look_up.asker,
+        path: look_up.path,
+        name: look_up.name,
+        from: Place::Always,
+    }
+}
+
+impl LookUps {
+    /// All of them.
+    fn into_list(self) -> Vec<LookUp<PathId, NameId>> {
+        let LookUps { list, held: _ } = self;
+        list
+    }
+
+    /// Adds a look-up, unless it is there. Says whether it was not.
+    fn put(&mut self, look_up: LookUp<PathId, NameId>) -> Result<bool, AllocError> {
+        if keyed::value_at(&self.held, look_up).is_some() {
+            return Ok(false);
+        }
+        keyed::put(&mut self.held, look_up, true)?;
+        self.list.push(look_up)?;
+        Ok(true)
+    }
+}
+
 impl Walks<'_> {
     /// The table of the module at a path.
     fn table(&self, path: PathId) -> Option<&Table> {
@@ -93,10 +130,10 @@ impl Walks<'_> {
         let mut questions = HashMap::new(alloc);
         let mut current = start;
         for _ in 0..usize::MAX {
-            if let Some(end) = keyed::value_at(&self.ends, current) {
+            self.look_ups.put(from_anywhere(current))?;
+            if let Some(end) = keyed::value_at(&self.ends, whoever_asks(current)) {
                 return Ok(end);
             }
-            self.asked.look_ups.push(current)?;
             let question = Symbol {
                 path: current.path,
                 name: current.name,
@@ -124,7 +161,9 @@ impl Walks<'_> {
         let mut trail = Vec::new(alloc);
         let end = self.walk(alloc, start, &mut trail)?;
         for look_up in &trail {
-            keyed::put(&mut self.ends, *look_up, end)?;
+            if look_up.asker.is_some() {
+                keyed::put(&mut self.ends, whoever_asks(*look_up), end)?;
+            }
         }
         Ok(end)
     }
@@ -137,7 +176,7 @@ impl Walks<'_> {
         start: LookUp<PathId, NameId>,
     ) -> Result<(), AllocError> {
         match self.follow(alloc, start)? {
-            Some(symbol) => self.asked.held.put(Arrow {
+            Some(symbol) => self.held.put(Arrow {
                 from,
                 to: Node::Item(symbol),
             }),
@@ -177,17 +216,17 @@ impl Walks<'_> {
     /// Adds what the imports of a module ask for, each by itself, as an eager link does.
     fn take_imports(&mut self, table: &Table) -> Result<(), AllocError> {
         for import in table.imports() {
-            self.asked.look_ups.push(LookUp {
+            self.look_ups.put(LookUp {
                 asker: Some(table.path()),
                 path: import.path,
                 name: import.item,
-                from: import.from,
+                from: Place::Always,
             })?;
         }
         Ok(())
     }
 
-    /// Follows the names that are kept.
+    /// Follows the names that are kept, each once.
     fn take_kept(&mut self, alloc: Global, told: &Explanation) -> Result<(), AllocError> {
         let Some(path) = root_of(told) else {
             return Ok(());
@@ -199,7 +238,9 @@ impl Walks<'_> {
                 name: *name,
                 from: Place::Always,
             };
-            self.take(alloc, Node::KeptName(*name), start)?;
+            if self.look_ups.put(start)? {
+                self.take(alloc, Node::KeptName(*name), start)?;
+            }
         }
         Ok(())
     }
@@ -258,10 +299,11 @@ pub fn asked_in(alloc: Global, told: &Explanation) -> Result<Asked, AllocError> 
         told,
         places: places_of(alloc, told)?,
         ends: HashMap::new(alloc),
-        asked: Asked {
-            look_ups: Vec::new(alloc),
-            held: Arrows::new(alloc),
+        look_ups: LookUps {
+            list: Vec::new(alloc),
+            held: HashMap::new(alloc),
         },
+        held: Arrows::new(alloc),
     };
     walks.take_kept(alloc, told)?;
     walks.take_all(alloc, told)?;
@@ -269,9 +311,13 @@ pub fn asked_in(alloc: Global, told: &Explanation) -> Result<Asked, AllocError> 
         told: _,
         places: _,
         ends: _,
-        asked,
+        look_ups,
+        held,
     } = walks;
-    Ok(asked)
+    Ok(Asked {
+        look_ups: look_ups.into_list(),
+        held: held.into_list(),
+    })
 }
 
 /// By what name each import binds what it aims at: of those with the same target the first.

@@ -1,13 +1,20 @@
 //! The declarations that are held, and who refers to them.
 
-use crate::asked::{asked_in, held_in, node_of, places_of};
+use crate::asked::{Asked, asked_in, held_in, node_of, places_of};
 use crate::drawing::{View, push_arrow, push_frame, push_marked, push_node};
 use crate::graph::Graph;
 use crate::marks::{asking_node, faulty_node};
 use crate::nodes::{Arrow, Arrows, Nodes};
 use std::alloc::{AllocError, Global};
 use wesl_explain_text::loaded_in;
-use wesl_explain_world::{LinkFault, NameId, PathId};
+use wesl_explain_world::{Explanation, LinkFault, NameId, PathId};
+
+/// Who refers to which declaration that is held, and who asks for what is faulty.
+#[derive(Drop)]
+pub struct Referred {
+    held: Vec<Arrow>,
+    wrong: Vec<Arrow>,
+}
 
 /// Writes the declarations of a name of a module, unless they are written, or its const_asserts.
 fn push_declaration(
@@ -75,24 +82,33 @@ fn add_askers(wrong: &mut Arrows, graph: Graph, link: &LinkFault) -> Result<(), 
 }
 
 /// Who asks for what is faulty.
-fn wrong_arrows(alloc: Global, view: View<'_>) -> Result<Arrows, AllocError> {
+fn wrong_arrows(alloc: Global, told: &Explanation) -> Result<Vec<Arrow>, AllocError> {
     let mut wrong = Arrows::new(alloc);
-    for fault in &view.told.faults {
+    for fault in &told.faults {
         if let Some(link) = &fault.link {
-            add_askers(&mut wrong, view.graph, link)?;
+            add_askers(&mut wrong, Graph::Declarations, link)?;
         }
     }
-    Ok(wrong)
+    Ok(wrong.into_list())
+}
+
+/// Who refers to which declaration.
+pub fn referred_in(alloc: Global, told: &Explanation) -> Result<Referred, AllocError> {
+    let Asked { look_ups: _, held } = asked_in(alloc, told)?;
+    Ok(Referred {
+        held,
+        wrong: wrong_arrows(alloc, told)?,
+    })
 }
 
 /// Writes arrows that look so.
 fn push_arrows(
     out: &mut String,
     view: View<'_>,
-    arrows: &Arrows,
+    arrows: &[Arrow],
     look: &str,
 ) -> Result<(), AllocError> {
-    for arrow in &arrows.list {
+    for arrow in arrows {
         push_arrow(out, view, *arrow, look)?;
     }
     Ok(())
@@ -103,11 +119,11 @@ pub fn push_declarations(
     out: &mut String,
     alloc: Global,
     view: View<'_>,
+    referred: &Referred,
 ) -> Result<(), AllocError> {
     let mut nodes = Nodes::new(alloc);
     push_nodes(out, alloc, view, &mut nodes)?;
     push_marked(out, view, &nodes)?;
-    let asked = asked_in(alloc, view.told)?;
-    push_arrows(out, view, &asked.held, "")?;
-    push_arrows(out, view, &wrong_arrows(alloc, view)?, " [color=\"red\"]")
+    push_arrows(out, view, &referred.held, "")?;
+    push_arrows(out, view, &referred.wrong, " [color=\"red\"]")
 }

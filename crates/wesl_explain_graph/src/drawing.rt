@@ -1,7 +1,7 @@
 //! Nodes and arrows in the language of Graphviz.
 
 use crate::graph::Graph;
-use crate::marks::{Mark, Marks};
+use crate::marks::{FaultText, Mark, Marks};
 use crate::nodes::{Arrow, Nodes};
 use std::alloc::AllocError;
 use wesl_explain_world::{Explanation, NameId, Node, PathId};
@@ -12,6 +12,7 @@ pub struct View<'v> {
     pub told: &'v Explanation,
     pub graph: Graph,
     pub marks: &'v Marks,
+    pub texts: &'v [FaultText],
 }
 
 /// Writes a text as it stands between quotes.
@@ -83,9 +84,29 @@ fn color_of(mark: &Mark) -> &'static str {
     if mark.is_faulty { "red" } else { "orange" }
 }
 
+/// Writes the text of the fault with a number.
+fn push_text(out: &mut String, texts: &[FaultText], number: usize) -> Result<(), AllocError> {
+    match texts.get(number) {
+        Some(fault) => push_escaped(out, fault.text.as_str()),
+        None => Ok(()),
+    }
+}
+
+/// Writes the texts of the faults of a mark as an attribute, a line each.
+fn push_texts(out: &mut String, texts: &[FaultText], mark: &Mark) -> Result<(), AllocError> {
+    out.push_str(", tooltip=\"")?;
+    push_text(out, texts, mark.first)?;
+    for number in &mark.others {
+        out.push_str("\\n")?;
+        push_text(out, texts, *number)?;
+    }
+    out.push_str("\"")
+}
+
 /// Writes how a node looks: what is said of it, and then how it is marked.
 fn push_look(
     out: &mut String,
+    texts: &[FaultText],
     said: Option<(&str, &str)>,
     mark: Option<&Mark>,
 ) -> Result<(), AllocError> {
@@ -94,7 +115,7 @@ fn push_look(
     }
     if let Some(mark) = mark {
         push_attribute(out, said.is_none(), "color", color_of(mark))?;
-        push_attribute(out, false, "tooltip", mark.text.as_str())?;
+        push_texts(out, texts, mark)?;
     }
     if said.is_some() || mark.is_some() {
         out.push_str("]")?;
@@ -112,7 +133,7 @@ pub fn push_node(
 ) -> Result<(), AllocError> {
     out.push_str(before)?;
     push_quoted(out, view, node)?;
-    push_look(out, said, view.marks.at(node))?;
+    push_look(out, view.texts, said, view.marks.at(node))?;
     out.push_str(";\n")
 }
 

@@ -4,7 +4,9 @@ use crate::asked::node_of;
 use crate::graph::Graph;
 use std::alloc::{AllocError, Global};
 use std::collections::HashMap;
-use wesl_explain_world::{Asker, Explanation, Flaw, LinkFault, NameId, Node, PathId, Symbol, Use};
+use wesl_explain_world::{
+    Asker, Explanation, Fault, FaultLine, Flaw, LinkFault, NameId, Node, PathId, Symbol, Use,
+};
 use wesl_link_symbols::keyed;
 
 /// A node that is marked.
@@ -13,10 +15,18 @@ pub struct Mark {
     pub node: Node<PathId, NameId>,
     /// Whether it is faulty itself, and does not only ask for what is.
     pub is_faulty: bool,
-    /// The texts of the faults, a line each.
+    /// The number of the first fault.
+    pub first: usize,
+    /// The numbers of the other faults, each once and in their order.
+    pub others: Vec<usize>,
+}
+
+/// The text of a fault.
+#[derive(Drop)]
+pub struct FaultText {
     pub text: String,
-    /// The number of the last of them.
-    last: usize,
+    /// Whether no module is asked for what is faulty.
+    pub is_alone: bool,
 }
 
 /// The nodes that are marked, in the order of the faults, and where each stands.
@@ -83,16 +93,15 @@ impl Marks {
         node: Node<PathId, NameId>,
         is_faulty: bool,
         number: usize,
-        text: &str,
     ) -> Result<(), AllocError> {
         let place = keyed::value_at(&self.places, node);
         match self.list.get_mut(place.unwrap_or(usize::MAX)) {
-            Some(mark) => mark.tell(is_faulty, number, text),
+            Some(mark) => mark.tell(is_faulty, number),
             None => self.add(Mark {
                 node,
                 is_faulty,
-                text: String::from_str(alloc, text)?,
-                last: number,
+                first: number,
+                others: Vec::new(alloc),
             }),
         }
     }
@@ -104,26 +113,28 @@ impl Marks {
         graph: Graph,
         number: usize,
         link: &LinkFault,
-        text: &str,
     ) -> Result<(), AllocError> {
-        self.put(alloc, faulty_node(graph, link), true, number, text)?;
+        self.put(alloc, faulty_node(graph, link), true, number)?;
         for asked in &link.uses {
-            self.put(alloc, asking_node(graph, *asked), false, number, text)?;
+            self.put(alloc, asking_node(graph, *asked), false, number)?;
         }
         Ok(())
     }
 }
 
 impl Mark {
+    /// The number of the last fault.
+    fn last(&self) -> usize {
+        self.others.last().copied().unwrap_or(self.first)
+    }
+
     /// Tells one more fault, unless it was told last.
-    fn tell(&mut self, is_faulty: bool, number: usize, text: &str) -> Result<(), AllocError> {
+    fn tell(&mut self, is_faulty: bool, number: usize) -> Result<(), AllocError> {
         self.is_faulty = self.is_faulty || is_faulty;
-        if self.last == number {
-            return Ok(());
+        if self.last() != number {
+            self.others.push(number)?;
         }
-        self.last = number;
-        self.text.push_str("\n")?;
-        self.text.push_str(text)
+        Ok(())
     }
 }
 
@@ -135,8 +146,37 @@ pub fn marks_of(alloc: Global, told: &Explanation, graph: Graph) -> Result<Marks
     };
     for (number, fault) in told.faults.iter().enumerate() {
         if let Some(link) = &fault.link {
-            marks.put_fault(alloc, graph, number, link, fault.line.text.as_str())?;
+            marks.put_fault(alloc, graph, number, link)?;
         }
     }
     Ok(marks)
+}
+
+/// The text of a fault, of which nothing else is needed any more.
+fn text_of(fault: Fault) -> FaultText {
+    let Fault {
+        line,
+        link,
+        conditions: _,
+        near_path: _,
+        named_module: _,
+    } = fault;
+    let FaultLine {
+        line: _,
+        declaration: _,
+        text,
+    } = line;
+    FaultText {
+        text,
+        is_alone: link.is_none(),
+    }
+}
+
+/// The texts of faults, of which nothing else is needed any more.
+pub fn texts_of(alloc: Global, faults: Vec<Fault>) -> Result<Vec<FaultText>, AllocError> {
+    let mut texts = Vec::with_capacity(alloc, faults.len())?;
+    for fault in faults {
+        texts.push(text_of(fault))?;
+    }
+    Ok(texts)
 }

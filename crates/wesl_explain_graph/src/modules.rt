@@ -1,9 +1,8 @@
 //! The modules that were loaded, and who loads them.
 
-use crate::asked::asked_in;
 use crate::drawing::{View, push_arrow, push_frame, push_marked, push_node};
 use crate::nodes::Nodes;
-use crate::ways::{Ways, ways_of};
+use crate::ways::Ways;
 use std::alloc::{AllocError, Global};
 use wesl_explain_text::loaded_in;
 use wesl_explain_world::Node;
@@ -47,7 +46,7 @@ fn push_ways(
     view: View<'_>,
     ways: &Ways,
 ) -> Result<(), AllocError> {
-    for (place, arrow) in ways.arrows.list.iter().enumerate() {
+    for (place, arrow) in ways.arrows.iter().enumerate() {
         let look = look_of(alloc, ways.labels.get(place))?;
         push_arrow(out, view, *arrow, look.as_str())?;
     }
@@ -68,10 +67,14 @@ fn look_of(alloc: Global, label: Option<&String>) -> Result<String, AllocError> 
 }
 
 /// Writes the modules that were loaded, and who loads them.
-pub fn push_modules(out: &mut String, alloc: Global, view: View<'_>) -> Result<(), AllocError> {
+pub fn push_modules(
+    out: &mut String,
+    alloc: Global,
+    view: View<'_>,
+    ways: &Ways,
+) -> Result<(), AllocError> {
     let mut nodes = Nodes::new(alloc);
     push_nodes(out, view, &mut nodes)?;
     push_marked(out, view, &nodes)?;
-    let asked = asked_in(alloc, view.told)?;
-    push_ways(out, alloc, view, &ways_of(alloc, view.told, &asked)?)
+    push_ways(out, alloc, view, ways)
 }

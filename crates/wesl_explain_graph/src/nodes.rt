@@ -7,10 +7,9 @@ use std::collections::HashMap;
 use wesl_explain_world::{NameId, Node, PathId};
 use wesl_link_symbols::keyed::{self, Identity};
 
-/// Nodes in the order in which they came.
+/// Nodes that are drawn.
 #[derive(Drop)]
 pub struct Nodes {
-    pub list: Vec<Node<PathId, NameId>>,
     held: HashMap<Node<PathId, NameId>, bool>,
 }
 
@@ -18,7 +17,6 @@ impl Nodes {
     /// No nodes. They take no memory.
     pub fn new(alloc: Global) -> Nodes {
         Nodes {
-            list: Vec::new(alloc),
             held: HashMap::new(alloc),
         }
     }
@@ -28,14 +26,9 @@ impl Nodes {
         keyed::value_at(&self.held, node).is_some()
     }
 
-    /// Adds a node, unless it is there.
+    /// Adds a node.
     pub fn put(&mut self, node: Node<PathId, NameId>) -> Result<(), AllocError> {
-        if self.has(node) {
-            return Ok(());
-        }
-        keyed::put(&mut self.held, node, true)?;
-        self.list.push(node)?;
-        Ok(())
+        keyed::put(&mut self.held, node, true)
     }
 }
 
@@ -64,7 +57,7 @@ impl Identity for Arrow {
 /// Arrows in the order in which they came, and where each stands.
 #[derive(Drop)]
 pub struct Arrows {
-    pub list: Vec<Arrow>,
+    list: Vec<Arrow>,
     places: HashMap<Arrow, usize>,
 }
 
@@ -80,6 +73,12 @@ impl Arrows {
     /// Where an arrow stands, if it is there.
     pub fn place_of(&self, arrow: Arrow) -> Option<usize> {
         keyed::value_at(&self.places, arrow)
+    }
+
+    /// The arrows.
+    pub fn into_list(self) -> Vec<Arrow> {
+        let Arrows { list, places: _ } = self;
+        list
     }
 
     /// Adds an arrow, unless it is there.

@@ -1,11 +1,9 @@
 //! Who loads a module, and by what: an import, or a path that stands where a name is used.
 
-use crate::asked::{Asked, imports_in};
+use crate::asked::{Asked, asked_in, imports_in};
 use crate::drawing::push_escaped;
 use crate::nodes::{Arrow, Arrows};
 use std::alloc::{AllocError, Global};
-use std::collections::HashMap;
-use wesl_cond_choices::place::Place;
 use wesl_explain_world::{Explanation, NameId, Node, PathId};
 use wesl_link_symbols::keyed;
 use wesl_link_symbols::symbols::LookUp;
@@ -13,18 +11,15 @@ use wesl_link_symbols::symbols::LookUp;
 /// Who loads which module, and of each in turn by what, a line each.
 #[derive(Drop)]
 pub struct Ways {
-    pub arrows: Arrows,
+    pub arrows: Vec<Arrow>,
     pub labels: Vec<String>,
 }
 
-/// The same look-up wherever in its module it asks from.
-fn from_anywhere(look_up: LookUp<PathId, NameId>) -> LookUp<PathId, NameId> {
-    LookUp {
-        asker: look_up.asker,
-        path: look_up.path,
-        name: look_up.name,
-        from: Place::Always,
-    }
+/// The same while look-ups are added.
+#[derive(Drop)]
+struct Gathered {
+    arrows: Arrows,
+    labels: Vec<String>,
 }
 
 /// From who asks to the module that is asked: none where a module asks itself.
@@ -67,7 +62,7 @@ fn push_way(
     push_escaped(label, told.name(bound))
 }
 
-impl Ways {
+impl Gathered {
     /// Adds the arrow of a look-up, unless it is there, and says where it stands.
     fn place(&mut self, alloc: Global, arrow: Arrow) -> Result<usize, AllocError> {
         if let Some(place) = self.arrows.place_of(arrow) {
@@ -98,19 +93,19 @@ impl Ways {
 }
 
 /// Who loads the modules of a link.
-pub fn ways_of(alloc: Global, told: &Explanation, asked: &Asked) -> Result<Ways, AllocError> {
+pub fn ways_of(alloc: Global, told: &Explanation) -> Result<Ways, AllocError> {
+    let Asked { look_ups, held: _ } = asked_in(alloc, told)?;
     let imports = imports_in(alloc, told)?;
-    let mut added = HashMap::new(alloc);
-    let mut ways = Ways {
+    let mut ways = Gathered {
         arrows: Arrows::new(alloc),
         labels: Vec::new(alloc),
     };
-    for look_up in &asked.look_ups {
-        let look_up = from_anywhere(*look_up);
-        if keyed::value_at(&added, look_up).is_none() {
-            keyed::put(&mut added, look_up, true)?;
-            ways.add(alloc, told, look_up, keyed::value_at(&imports, look_up))?;
-        }
+    for look_up in &look_ups {
+        ways.add(alloc, told, *look_up, keyed::value_at(&imports, *look_up))?;
     }
-    Ok(ways)
+    let Gathered { arrows, labels } = ways;
+    Ok(Ways {
+        arrows: arrows.into_list(),
+        labels,
+    })
 }

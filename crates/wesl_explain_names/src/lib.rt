@@ -3,6 +3,7 @@
 #![tactic(auto)]
 
 mod below;
+mod letters;
 mod near;
 mod texts;
 

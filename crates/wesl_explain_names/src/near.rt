@@ -1,5 +1,6 @@
 //! Names that are near to one that is not there.
 
+use crate::letters::Letters;
 use crate::texts::Texts;
 use std::alloc::{AllocError, Global};
 use strsim::levenshtein;
@@ -41,7 +42,7 @@ pub struct Near {
 #[derive(Clone, Copy)]
 pub struct Wanted<'w> {
     text: &'w str,
-    letters: usize,
+    letters: Letters,
     /// how many edits may lead to a name that is near
     edits: usize,
 }
@@ -53,15 +54,10 @@ pub struct NearNames {
     comparisons: usize,
 }
 
-/// How many letters a name has.
-fn letters_in(text: &str) -> usize {
-    text.chars().count()
-}
-
 impl<'w> Wanted<'w> {
     fn new(text: &'w str) -> Wanted<'w> {
-        let letters = letters_in(text);
-        let edits = if letters <= FEW_LETTERS {
+        let letters = Letters::of(text);
+        let edits = if letters.count <= FEW_LETTERS {
             FEW_EDITS
         } else {
             EDITS
@@ -73,20 +69,20 @@ impl<'w> Wanted<'w> {
         }
     }
 
-    /// Whether a name is so long that it may be near. Each letter has four bytes at most.
+    /// Whether a name has so many letters, and so many of the same, that it may be near. Each letter has four bytes at most.
     fn may_be(&self, text: &str) -> bool {
-        text.len().abs_diff(self.text.len()) <= 4 * EDITS
-            && self.text.len() <= LONGEST
-            && letters_in(text).abs_diff(self.letters) <= self.edits
+        if text.len().abs_diff(self.text.len()) > 4 * EDITS || self.text.len() > LONGEST {
+            return false;
+        }
+        let letters = Letters::of(text);
+        letters.count.abs_diff(self.letters.count) <= self.edits
+            && self.letters.edits_to(letters) <= EDITS
     }
 
     /// Whether a name with so many letters is near, to which so many edits lead: more than one letter stays.
     fn is_near(&self, letters: usize, edits: usize) -> bool {
-        let longest = if letters < self.letters {
-            self.letters
-        } else {
-            letters
-        };
+        let own = self.letters.count;
+        let longest = if letters < own { own } else { letters };
         edits <= self.edits && longest.saturating_sub(edits) > 1
     }
 }
@@ -139,7 +135,7 @@ impl NearNames {
             return Ok(best);
         }
         let edits = levenshtein(alloc, wanted.text, own)?;
-        if wanted.is_near(letters_in(own), edits) && is_nearer(best, edits) {
+        if wanted.is_near(Letters::of(own).count, edits) && is_nearer(best, edits) {
             Ok(Some(Near { symbol, edits }))
         } else {
             Ok(best)

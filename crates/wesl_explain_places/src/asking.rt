@@ -1,7 +1,7 @@
 //! Where something is asked for.
 
 use crate::modules::ReadModules;
-use wesl_link_faults::asker::Asker;
+use wesl_link_flaws::asker::Asker;
 use wesl_link_symbols::ids::{NameId, PathId};
 use wesl_tree::Span;
 

@@ -24,7 +24,7 @@ pub fn chain_of(
     name: Option<NameId>,
 ) -> Result<Chain, AllocError> {
     let Some(until) = &told.until else {
-        return Cut::of(alloc, &told.chain(alloc, path, name)?);
+        return told.steps(alloc, path, name);
     };
     let node = match name {
         Some(name) => Node::Item(Symbol { path, name }),
@@ -110,14 +110,15 @@ fn steps_from(
 
 /// Writes a chain, without its middle where it is long.
 pub fn push_chain(out: &mut String, told: &Explanation, chain: &Chain) -> Result<(), AllocError> {
-    let Some(first) = chain.first.first() else {
+    let beginning = chain.beginning();
+    let Some(first) = beginning.first() else {
         return Ok(());
     };
     push_node(out, told, *first)?;
     if chain.len() <= 1 + FIRST + LAST {
-        return push_nodes(out, told, steps_from(&chain.first, 1, FIRST + LAST));
+        return push_nodes(out, told, steps_from(beginning, 1, FIRST + LAST));
     }
-    push_nodes(out, told, steps_from(&chain.first, 1, FIRST))?;
+    push_nodes(out, told, steps_from(beginning, 1, FIRST))?;
     out.push_str(" -> ..")?;
     let ending = chain.ending();
     push_nodes(

@@ -11,7 +11,7 @@ use wesl_explain_world::{Explanation, Fault, FaultLine, LinkFault};
 
 /// Writes what helps.
 fn push_cures(out: &mut String, link: &LinkFault) -> Result<(), AllocError> {
-    for cure in &link.cures {
+    for cure in link.cures {
         out.push_str("     cure: ")?;
         out.push_str(cure_text(*cure, link, is_kept(link)))?;
         out.push_str("\n")?;

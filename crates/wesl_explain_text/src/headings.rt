@@ -92,12 +92,13 @@ fn push_paths(
 
 /// Writes the paths of a ring, each before an arrow, and the first once more.
 fn push_ring(out: &mut String, told: &Explanation, way: &Way) -> Result<(), AllocError> {
-    push_paths(out, told, &way.ring.first)?;
+    let beginning = way.ring.beginning();
+    push_paths(out, told, beginning)?;
     if way.ring.left_out > 0 {
         out.push_str(".. -> ")?;
-        push_paths(out, told, &way.ring.last)?;
+        push_paths(out, told, way.ring.ending())?;
     }
-    match way.ring.first.first() {
+    match beginning.first() {
         Some(first) => out.push_str(told.path(first.path)),
         None => Ok(()),
     }

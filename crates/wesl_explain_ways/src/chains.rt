@@ -65,21 +65,20 @@ impl Depths {
         }
     }
 
+    /// Whether the chain to the node at a place is cut.
+    pub fn is_cut(&self, place: usize) -> bool {
+        is_cut(self.length(place))
+    }
+
     /// The chain to the node at a place. These are the nodes of which the lengths are known.
     pub fn chain(&self, alloc: Global, nodes: &[Found], place: usize) -> Result<Chain, AllocError> {
         let length = self.length(place);
         if is_cut(length) {
-            return Ok(Cut {
-                first: steps_to(alloc, nodes, self.head(place), END)?,
-                left_out: length.saturating_sub(END + END),
-                last: steps_to(alloc, nodes, place, END)?,
-            });
+            let first = steps_to(alloc, nodes, self.head(place), END)?;
+            let last = steps_to(alloc, nodes, place, END)?;
+            return Cut::between(first, &last, length);
         }
-        Ok(Cut {
-            first: steps_to(alloc, nodes, place, length)?,
-            left_out: 0,
-            last: Vec::new(alloc),
-        })
+        Ok(Cut::whole(steps_to(alloc, nodes, place, length)?))
     }
 }
 

@@ -10,12 +10,10 @@ const WHOLE: usize = 32;
 /// A list, without its middle where it is long.
 #[derive(Drop)]
 pub struct Cut<T> {
-    /// All of it, or its first items.
-    pub first: Vec<T>,
-    /// How many items are left out behind these.
+    /// All items, or the first and behind them the last.
+    items: Vec<T>,
+    /// How many items are left out between these.
     pub left_out: usize,
-    /// Its last items, where some are left out.
-    pub last: Vec<T>,
 }
 
 /// Whether a list of so many items is cut.
@@ -26,45 +24,52 @@ pub fn is_cut(count: usize) -> bool {
 impl<T: Copy> Cut<T> {
     /// No items. They take no memory.
     pub fn new(alloc: Global) -> Cut<T> {
-        Cut {
-            first: Vec::new(alloc),
-            left_out: 0,
-            last: Vec::new(alloc),
-        }
+        Cut::whole(Vec::new(alloc))
     }
 
-    /// A list, without its middle where it is long.
-    pub fn of(alloc: Global, items: &[T]) -> Result<Cut<T>, AllocError> {
-        let count = items.len();
-        let (first, last) = if is_cut(count) {
-            (END, count.saturating_sub(END))
+    /// A list of these items.
+    pub fn whole(items: Vec<T>) -> Cut<T> {
+        Cut { items, left_out: 0 }
+    }
+
+    /// A list of `count` items, more than are told of a whole one, that begins and ends with these.
+    pub fn between(first: Vec<T>, last: &[T], count: usize) -> Result<Cut<T>, AllocError> {
+        let mut items = first;
+        items.extend_from_slice(last)?;
+        let left_out = count.saturating_sub(items.len());
+        Ok(Cut { items, left_out })
+    }
+
+    /// The items, without those that are left out.
+    pub fn items(&self) -> &[T] {
+        &self.items
+    }
+
+    /// The first items, or all of a list that is whole.
+    pub fn beginning(&self) -> &[T] {
+        if self.left_out == 0 {
+            &self.items
         } else {
-            (count, count)
-        };
-        Ok(Cut {
-            first: Vec::from_slice(alloc, items.get(..first).unwrap_or(&[]))?,
-            left_out: last.saturating_sub(first),
-            last: Vec::from_slice(alloc, items.get(last..).unwrap_or(&[]))?,
-        })
-    }
-
-    /// How many items the list has.
-    pub fn len(&self) -> usize {
-        let told = self.first.len().saturating_add(self.last.len());
-        told.saturating_add(self.left_out)
-    }
-
-    /// Whether the list has no items.
-    pub fn is_empty(&self) -> bool {
-        self.first.is_empty()
+            self.items.get(..END).unwrap_or(&[])
+        }
     }
 
     /// The last items, or all of a list that is whole.
     pub fn ending(&self) -> &[T] {
         if self.left_out == 0 {
-            &self.first
+            &self.items
         } else {
-            &self.last
+            self.items.get(END..).unwrap_or(&[])
         }
+    }
+
+    /// How many items the list has.
+    pub fn len(&self) -> usize {
+        self.items.len().saturating_add(self.left_out)
+    }
+
+    /// Whether the list has no items.
+    pub fn is_empty(&self) -> bool {
+        self.items.is_empty()
     }
 }

@@ -1,13 +1,13 @@
 //! Ways of look-ups: what is asked for on each, one name of a module after the other, and the rings to which they lead.
 ghost use Rattle.std.specs.Prelude.{◌≡◌};
 ghost use Rattle.wesl_link_reach.specs.Trodden.{symbol_of};
-ghost use Rattle.wesl_link_faults.specs.Searching.{IsReady};
+ghost use Rattle.wesl_link_flaws.specs.Searching.{IsReady};
 
 use crate::cut::{Cut, END, is_cut};
 use std::alloc::{AllocError, Global};
 use std::collections::HashMap;
-use wesl_link_faults::given::Given;
-use wesl_link_faults::keys;
+use wesl_link_flaws::given::Given;
+use wesl_link_flaws::keys;
 use wesl_link_symbols::ids::{NameId, PathId};
 use wesl_link_symbols::keyed;
 use wesl_link_symbols::symbols::{LookUp, Symbol};
@@ -63,6 +63,17 @@ pub fn question(look_up: LookUp<PathId, NameId>) -> Symbol<PathId, NameId>
     Symbol {
         path: look_up.path,
         name: look_up.name,
+    }
+}
+
+/// The same look-up, whichever other module asks: the one that is asked answers all others alike.
+pub fn whoever_asks(look_up: LookUp<PathId, NameId>) -> LookUp<PathId, NameId> {
+    let is_own = look_up.asker == Some(look_up.path);
+    LookUp {
+        asker: if is_own { look_up.asker } else { None },
+        path: look_up.path,
+        name: look_up.name,
+        from: look_up.from,
     }
 }
 
@@ -167,17 +178,11 @@ impl Walk<'_> {
     ) -> Result<Cut<Symbol<PathId, NameId>>, AllocError> {
         let count = to.saturating_sub(from);
         if !is_cut(count) {
-            return Ok(Cut {
-                first: self.between(alloc, from, to)?,
-                left_out: 0,
-                last: Vec::new(alloc),
-            });
+            return Ok(Cut::whole(self.between(alloc, from, to)?));
         }
-        Ok(Cut {
-            first: self.between(alloc, from, from.saturating_add(END))?,
-            left_out: count.saturating_sub(END + END),
-            last: self.between(alloc, to.saturating_sub(END), to)?,
-        })
+        let first = self.between(alloc, from, from.saturating_add(END))?;
+        let last = self.between(alloc, to.saturating_sub(END), to)?;
+        Cut::between(first, &last, count)
     }
 
     /// The way, with the number of its ring.

@@ -3,81 +3,24 @@
 use crate::explanation::UnusedImport;
 use crate::world::World;
 use std::alloc::{AllocError, Global};
-use std::collections::HashMap;
 use wesl_explain_names::{Below, Texts};
-use wesl_link_symbols::ids::{NameId, PathId};
-use wesl_link_symbols::keyed;
+use wesl_explain_ways::Asked;
 use wesl_link_symbols::symbols::Symbol;
-use wesl_link_symbols::table::{Declaration, Table};
+use wesl_link_symbols::table::Table;
 
-/// Names of modules that are asked for, each once, in the order in which they were found.
-#[derive(Drop)]
-struct Asked {
-    found: Vec<Symbol<PathId, NameId>>,
-    held: HashMap<Symbol<PathId, NameId>, bool>,
-}
-
-impl Asked {
-    fn new(alloc: Global) -> Asked {
-        Asked {
-            found: Vec::new(alloc),
-            held: HashMap::new(alloc),
+/// Puts what the held declarations of a module ask for, or all that it has.
+fn put_declared(
+    asked: &mut Asked,
+    world: &World,
+    table: &Table,
+    is_whole: bool,
+) -> Result<(), AllocError> {
+    for declaration in table.declarations() {
+        if is_whole || world.holds(table.path(), declaration.name()) {
+            asked.put_references(declaration)?;
         }
     }
-
-    fn put(&mut self, path: PathId, name: NameId) -> Result<(), AllocError> {
-        if self.has(path, name) {
-            return Ok(());
-        }
-        keyed::put(&mut self.held, Symbol { path, name }, true)?;
-        self.found.push(Symbol { path, name })?;
-        Ok(())
-    }
-
-    fn has(&self, path: PathId, name: NameId) -> bool {
-        keyed::value_at(&self.held, Symbol { path, name }).is_some()
-    }
-
-    /// What a declaration asks for.
-    fn put_references(&mut self, declaration: &Declaration) -> Result<(), AllocError> {
-        for reference in declaration.references() {
-            self.put(reference.path, reference.name)?;
-        }
-        Ok(())
-    }
-
-    /// What the held declarations of a module ask for, or all that it has.
-    fn put_declared(
-        &mut self,
-        world: &World,
-        table: &Table,
-        is_whole: bool,
-    ) -> Result<(), AllocError> {
-        for declaration in table.declarations() {
-            if is_whole || world.holds(table.path(), declaration.name()) {
-                self.put_references(declaration)?;
-            }
-        }
-        Ok(())
-    }
-
-    /// What the import with an index asks for.
-    fn put_target(&mut self, table: &Table, index: usize) -> Result<(), AllocError> {
-        match table.imports().get(index) {
-            Some(import) => self.put(import.path, import.item),
-            None => Ok(()),
-        }
-    }
-
-    /// What a module asks for where it is asked for a name that it imports.
-    fn put_targets(&mut self, table: &Table, name: NameId) -> Result<(), AllocError> {
-        let mut at = table.latest_import_of(name);
-        'targets: while let Some(index) = at {
-            self.put_target(table, index)?;
-            at = table.earlier_import_of(index, name);
-        }
-        Ok(())
-    }
+    Ok(())
 }
 
 /// What the kept names and the held declarations ask for, from outside a module, and what is asked for in turn.
@@ -89,7 +32,7 @@ fn asked_in(alloc: Global, world: &World) -> Result<Asked, AllocError> {
         }
     }
     for table in world.linked.tables() {
-        asked.put_declared(world, table, false)?;
+        put_declared(&mut asked, world, table, false)?;
     }
     Ok(asked)
 }
@@ -118,10 +61,10 @@ fn add_unused(
     unused: &mut Vec<UnusedImport>,
 ) -> Result<(), AllocError> {
     let mut own = Asked::new(alloc);
-    own.put_declared(world, table, false)?;
+    put_declared(&mut own, world, table, false)?;
     let mut own = Below::of(alloc, texts, &own.found)?;
     let mut whole = Asked::new(alloc);
-    whole.put_declared(world, table, true)?;
+    put_declared(&mut whole, world, table, true)?;
     let mut whole = Below::of(alloc, texts, &whole.found)?;
     for import in table.imports() {
         if !all.has(table.path(), import.bound) && !own.leads_to(texts, import)? {

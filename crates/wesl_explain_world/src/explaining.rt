@@ -18,6 +18,7 @@ use json::Scratch;
 use std::alloc::{AllocError, Global};
 use wesl_explain_clashes::clashes_in;
 use wesl_explain_faults::Texts;
+use wesl_explain_ways::Depths;
 use wesl_link::{LinkRequest, Resolutions, link_at};
 use wesl_link_symbols::ids::PathId;
 use wesl_program::{BundleMangler, bundle_of_bytes};
@@ -200,6 +201,7 @@ fn explain_world(
     let free = free_in(alloc, &world, &texts, unit, builtins.as_ref())?;
     let unused = unused_imports(alloc, &world, &texts)?;
     let faults = faults_in(alloc, unit, builtins.as_ref())?;
+    let depths = Depths::of(alloc, world.reasons.nodes())?;
     let (names, paths) = texts.into_lists(alloc)?;
     let is_eager = options.eager;
     let World {
@@ -213,6 +215,7 @@ fn explain_world(
         paths,
         names,
         reasons: Some(reasons),
+        depths,
         modules: order,
         held,
         clashes,

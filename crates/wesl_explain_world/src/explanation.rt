@@ -3,11 +3,12 @@ ghost use Rattle.std.specs.Prelude.{IfOk};
 ghost use Rattle.wesl_explain_world.specs.Why.{TellsWhyIn, node_of};
 ghost use Rattle.wesl_explain_world.specs.Explained.{TellsNothing};
 
-use crate::world::{Steps, reason_of};
+use crate::world::{Steps, node_at, reason_of};
 use serde_json::Value;
 use std::alloc::{AllocError, Global};
 use wesl_explain_clashes::Clashes;
-use wesl_explain_faults::{HeldUntil, LinkFault};
+use wesl_explain_faults::{Chain, Cut, HeldUntil, LinkFault};
+use wesl_explain_ways::Depths;
 use wesl_json::value_of_text;
 use wesl_link_reach::link::Linked;
 use wesl_link_reasons::Reasons;
@@ -23,6 +24,8 @@ pub struct Explanation {
     pub names: Vec<String>,
     /// Who asked first for each thing that is held in a link.
     pub reasons: Option<Reasons>,
+    /// How long the chain to each of these is.
+    pub depths: Depths,
     /// The modules that were loaded for a link, the root first and the others in path order.
     pub modules: Vec<PathId>,
     /// The declarations that are held, in the order of the linked unit.
@@ -56,6 +59,7 @@ impl Explanation {
             paths: Vec::new(alloc),
             names: Vec::new(alloc),
             reasons: None,
+            depths: Depths::new(alloc),
             modules: Vec::new(alloc),
             held: Vec::new(alloc),
             clashes: Clashes::none(alloc),
@@ -84,6 +88,23 @@ impl Explanation {
             Some(reasons) => reason_of(alloc, reasons, path, name),
             None => Ok(Vec::new(alloc)),
         }
+    }
+
+    /// The same without its middle where it is long.
+    pub fn steps(
+        &self,
+        alloc: Global,
+        path: PathId,
+        name: Option<NameId>,
+    ) -> Result<Chain, AllocError> {
+        if let Some(reasons) = &self.reasons {
+            if let Some(place) = reasons.place_of(node_at(path, name)) {
+                if self.depths.is_cut(place) {
+                    return self.depths.chain(alloc, reasons.nodes(), place);
+                }
+            }
+        }
+        Ok(Cut::whole(self.chain(alloc, path, name)?))
     }
 
     /// The text of a path.

@@ -17,7 +17,7 @@ pub use explaining::explained;
 pub use explanation::{Explanation, Fault, FaultLine, FreeName, HeldDeclaration, UnusedImport};
 pub use wesl_explain_clashes::{Clashes, Cure, Meaning, NameClash, Read};
 pub use wesl_explain_faults::{
-    Asker, Chain, Cut, FaultCure, Flaw, HeldUntil, LinkFault, Target, Use, Way, Wrong,
+    Asker, Chain, Cut, FaultCure, Flaw, HeldUntil, LinkFault, Target, Use, Way, Wrong, whoever_asks,
 };
 pub use wesl_link_reasons::node::Node;
 pub use wesl_link_symbols::ids::{NameId, PathId};

@@ -15,9 +15,9 @@ use wesl_explain_faults::{
     Wrong, no_way, refused_link,
 };
 use wesl_link::LinkRequest;
-use wesl_link_faults::absence::Absence;
 use wesl_link_faults::open::{OpenError, Opened};
 use wesl_link_faults::open_table;
+use wesl_link_flaws::absence::Absence;
 use wesl_link_symbols::ids::{NameId, PathId};
 use wesl_link_symbols::table::Table;
 use wesl_program_bundle::BundleModule;
@@ -48,6 +48,11 @@ fn path_of(alloc: Global, texts: &Texts, path: PathId) -> Result<ModulePath, All
     }
 }
 
+/// A copy of the name of a number.
+fn name_of(alloc: Global, texts: &Texts, name: NameId) -> Result<String, AllocError> {
+    String::from_str(alloc, texts.name(name))
+}
+
 /// The error of a name that is wrong in a module.
 fn error_of_name(
     alloc: Global,
@@ -57,25 +62,14 @@ fn error_of_name(
     max_modules: usize,
 ) -> Result<Error, AllocError> {
     let path = path_of(alloc, texts, at)?;
-    match flaw {
-        Flaw::NoModule => Ok(Error::ModuleLimit(max_modules)),
-        Flaw::Clash(name) => {
-            let name = String::from_str(alloc, texts.name(name))?;
-            Ok(Error::Import(ImportError::DuplicateSymbol(name)))
-        }
-        Flaw::Lacking(name) => {
-            let name = String::from_str(alloc, texts.name(name))?;
-            Ok(Error::Import(ImportError::MissingDecl(path, name)))
-        }
-        Flaw::Hidden(name) => {
-            let name = String::from_str(alloc, texts.name(name))?;
-            Ok(Error::Import(ImportError::Private(name, path)))
-        }
-        Flaw::Unsure(name) => {
-            let name = String::from_str(alloc, texts.name(name))?;
-            Ok(Error::Import(ImportError::AmbiguousSymbol(name)))
-        }
-    }
+    let error = match flaw {
+        Flaw::NoModule => return Ok(Error::ModuleLimit(max_modules)),
+        Flaw::Clash(name) => ImportError::DuplicateSymbol(name_of(alloc, texts, name)?),
+        Flaw::Lacking(name) => ImportError::MissingDecl(path, name_of(alloc, texts, name)?),
+        Flaw::Hidden(name) => ImportError::Private(name_of(alloc, texts, name)?, path),
+        Flaw::Unsure(name) => ImportError::AmbiguousSymbol(name_of(alloc, texts, name)?),
+    };
+    Ok(Error::Import(error))
 }
 
 /// The error of a path without a module.
@@ -95,24 +89,24 @@ fn error_of_absence(
 }
 
 /// What helps where no module is at a path.
-fn cures_of_absence(error: &Error) -> Option<FaultCure> {
+fn cures_of_absence(error: &Error) -> &'static [FaultCure] {
     match error {
-        Error::ModuleLimit(_) => Some(FaultCure::MaxModules),
-        Error::Import(ImportError::TooManyFlags(_)) => Some(FaultCure::Features),
-        Error::Import(ImportError::ResolveError(refusal)) => cure_of_refusal(refusal),
-        _ => None,
+        Error::ModuleLimit(_) => &[FaultCure::MaxModules],
+        Error::Import(ImportError::TooManyFlags(_)) => &[FaultCure::Features],
+        Error::Import(ImportError::ResolveError(refusal)) => cures_of_refusal(refusal),
+        _ => &[],
     }
 }
 
 /// What helps where a resolver refuses a path.
-fn cure_of_refusal(refusal: &ResolveError) -> Option<FaultCure> {
+fn cures_of_refusal(refusal: &ResolveError) -> &'static [FaultCure] {
     match refusal {
-        ResolveError::ModuleNotFound(_, _) => Some(FaultCure::Path),
+        ResolveError::ModuleNotFound(_, _) => &[FaultCure::Path],
         ResolveError::Error(diagnostic) => match &diagnostic.error {
-            Error::CondComp(_) => Some(FaultCure::Condition),
-            _ => None,
+            Error::CondComp(_) => &[FaultCure::Condition],
+            _ => &[],
         },
-        _ => None,
+        _ => &[],
     }
 }
 
@@ -234,8 +228,8 @@ fn link_fault(
 ) -> Result<Fault, AllocError> {
     let mut link = link;
     let error = error_of(alloc, around, absences, &link)?;
-    if let Some(cure) = cures_of_absence(&error) {
-        link.cures.push(cure)?;
+    if link.wrong.flaw == Flaw::NoModule {
+        link.cures = cures_of_absence(&error);
     }
     let near_path = near_path(alloc, around, near, &error, link.wrong.at)?;
     let named_module = named_module(alloc, around.texts, around.listed, &link)?;
@@ -285,7 +279,7 @@ fn root_fault(alloc: Global, root: PathId) -> Result<LinkFault, AllocError> {
         way: no_way(alloc),
         near: None,
         targets: Vec::new(alloc),
-        cures: Vec::new(alloc),
+        cures: &[],
     })
 }
 
@@ -440,6 +434,7 @@ fn explain_found(
         &texts,
         &read,
     )?;
+    drop(told);
     let RefusedLink { faults, until } = link;
     let mut around = Around {
         texts: &texts,

@@ -63,6 +63,16 @@ fn module_chain(alloc: Global, reasons: &Reasons, path: PathId) -> Result<Steps,
     }
 }
 
+/// What holds the declarations of a name: their symbol; and what holds a const_assert: its module.
+pub fn node_at(path: PathId, name: Option<NameId>) -> Node<PathId, NameId>
+    ensures { result ≡ node_of path name }
+{
+    match name {
+        Some(name) => Node::Item(Symbol { path, name }),
+        None => Node::Module(path),
+    }
+}
+
 /// Why a declaration is held: that of a name, or a const_assert.
 pub fn reason_of(
     alloc: Global,

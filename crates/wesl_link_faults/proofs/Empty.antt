@@ -9,13 +9,13 @@ use Rattle.wesl_link_reach.specs.Linking.{Linking, IsLinked}
 use Rattle.wesl_link_reach.proofs.Lists.{distinct_length}
 use Rattle.wesl_link_reach.proofs.Exclusive.{exclude}
 use Rattle.wesl_link_symbols.proofs.Lists.{contains_nil, contains_first}
-use Rattle.wesl_link_faults.specs.declared.asker.Asker.{Asker}
-use Rattle.wesl_link_faults.specs.declared.absence.Absence.{Absence}
-use Rattle.wesl_link_faults.specs.declared.absence.Absence.TheVariants.{TurnedAway, Crowded}
-use Rattle.wesl_link_faults.specs.Askers.{Brings, StandsBy}
+use Rattle.wesl_link_flaws.specs.declared.asker.Asker.{Asker}
+use Rattle.wesl_link_flaws.specs.declared.absence.Absence.{Absence}
+use Rattle.wesl_link_flaws.specs.declared.absence.Absence.TheVariants.{TurnedAway, Crowded}
+use Rattle.wesl_link_flaws.specs.Askers.{Brings, StandsBy}
 use Rattle.wesl_link_faults.specs.Opened.{Finding, Opened, IsOpened, HandsRoomy, IsAbsent, IsToldAbsent, TellsLimit}
 use Rattle.wesl_link_faults.specs.Laws.{IsPlain, IsEmptyWhereLinked}
-use Rattle.wesl_link_faults.proofs.Asking.{each, bringer, stands_of, asked_of}
+use Rattle.wesl_link_flaws.proofs.Asking.{each, bringer, stands_of, asked_of}
 
 empty_of : {X : Type 0} (xs : List X) → ((x : X) → Contains xs x → ⊥) → xs ≡ []
 empty_of [] h = refl

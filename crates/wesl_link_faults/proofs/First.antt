@@ -14,13 +14,13 @@ use Rattle.wesl_link_reach.specs.Faults.{Fault, duplicate, refused, missing, pri
 use Rattle.wesl_link_reach.proofs.Lists.{distinct_length}
 use Rattle.wesl_link_reach.proofs.Exclusive.{Shares}
 use Rattle.wesl_link_symbols.proofs.Lists.{contains_nil, contains_first, contains_later, contains_cases}
-use Rattle.wesl_link_faults.specs.declared.asker.Asker.{Asker}
-use Rattle.wesl_link_faults.specs.declared.absence.Absence.{Absence}
-use Rattle.wesl_link_faults.specs.declared.absence.Absence.TheVariants.{TurnedAway, Crowded}
-use Rattle.wesl_link_faults.specs.Askers.{Brings, StandsBy}
+use Rattle.wesl_link_flaws.specs.declared.asker.Asker.{Asker}
+use Rattle.wesl_link_flaws.specs.declared.absence.Absence.{Absence}
+use Rattle.wesl_link_flaws.specs.declared.absence.Absence.TheVariants.{TurnedAway, Crowded}
+use Rattle.wesl_link_flaws.specs.Askers.{Brings, StandsBy}
 use Rattle.wesl_link_faults.specs.Opened.{Finding, Opened, IsOpened, IsAbsent, IsToldAbsent, TellsLimit}
 use Rattle.wesl_link_faults.specs.Laws.{IsPlain, IsTold, TellsTheFirst}
-use Rattle.wesl_link_faults.proofs.Asking.{each, bringer, asked_of}
+use Rattle.wesl_link_flaws.proofs.Asking.{each, bringer, asked_of}
 use Rattle.wesl_link_faults.proofs.Empty.{roomy_of, not_both}
 
 module _ {P N : Type 0} where

@@ -1,16 +1,6 @@
-pub mod Asking
+pub mod Asked
 pub mod Rows
 pub mod Empty
 pub mod First
-pub mod Halting
-pub mod Searching
-pub mod Closing
-pub mod Placing
-pub mod Over
-pub mod Clashing
-pub mod Keeping
-pub mod Walking
-pub mod Taking
-pub mod Turning
 pub mod Placed
 pub mod Opening

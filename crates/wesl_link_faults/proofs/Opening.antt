@@ -15,26 +15,26 @@ use Rattle.wesl_link_reach.specs.Loading.{GoesOn}
 use Rattle.wesl_link_reach.specs.Linking.{paths}
 use Rattle.wesl_link_reach.proofs.Lists.{contains_map, map_contains, contains_one}
 use Rattle.wesl_link_reach.proofs.Steps.{world_alone}
-use Rattle.wesl_link_faults.specs.declared.absence.Absence.{Absence}
-use Rattle.wesl_link_faults.specs.declared.asker.Asker.{Asker}
+use Rattle.wesl_link_flaws.specs.declared.absence.Absence.{Absence}
+use Rattle.wesl_link_flaws.specs.declared.asker.Asker.{Asker}
 use Rattle.wesl_link_faults.specs.declared.loading.Loaded.{Loaded}
 use Rattle.wesl_link_faults.specs.declared.loading.Wanted.{Wanted}
 use Rattle.wesl_link_faults.specs.declared.open.Fault.{Fault}
 use Rattle.wesl_link_faults.specs.declared.open.Fault.TheVariants.{Duplicate, Absent, Missing, Private, Ambiguous, TooMany}
 use Rattle.wesl_link_faults.specs.declared.open.Finding.{Finding}
 use Rattle.wesl_link_faults.specs.declared.open.Opened.{Opened}
-use Rattle.wesl_link_faults.specs.declared.told.Flaw.{Flaw}
-use Rattle.wesl_link_faults.specs.declared.told.Flaw.TheVariants.{Clash, NoModule, Lacking, Hidden, Unsure}
-use Rattle.wesl_link_faults.specs.declared.told.Told.{Told}
-use Rattle.wesl_link_faults.specs.declared.world.Findings.{Findings}
-use Rattle.wesl_link_faults.specs.Askers.{Brings, StandsBy}
-use Rattle.wesl_link_faults.specs.Flaws.{IsBare, IsFlaw}
-use Rattle.wesl_link_faults.specs.Found.{AreFindings}
+use Rattle.wesl_link_flaws.specs.declared.told.Flaw.{Flaw}
+use Rattle.wesl_link_flaws.specs.declared.told.Flaw.TheVariants.{Clash, NoModule, Lacking, Hidden, Unsure}
+use Rattle.wesl_link_flaws.specs.declared.told.Told.{Told}
+use Rattle.wesl_link_flaws.specs.declared.world.Findings.{Findings}
+use Rattle.wesl_link_flaws.specs.Askers.{Brings, StandsBy}
+use Rattle.wesl_link_flaws.specs.Flaws.{IsBare, IsFlaw}
+use Rattle.wesl_link_flaws.specs.Found.{AreFindings}
 use Rattle.wesl_link_faults.specs.Loading.{HavePlaces, IsLoaded, asked_in, tables_in, task_wanted}
 use Rattle.wesl_link_faults.specs.Opened as opened
 use Rattle.wesl_link_faults.specs.Opened.{HandsRoomy, IsAbsent, IsToldAbsent, TellsLimit, IsOfName, IsOpened}
 use Rattle.wesl_link_faults.specs.Opening.{AreBeyond, AreRight, HasPassed, IsBegun, IsFinished, IsRightAt, absent_fault, fault_at, finding_of, flaw_of, opened_in, told_of}
-use Rattle.wesl_link_faults.proofs.Asking.{all_from, bringer, entered_by}
+use Rattle.wesl_link_flaws.proofs.Asking.{all_from, bringer, entered_by}
 
 -- ---- the root alone
 

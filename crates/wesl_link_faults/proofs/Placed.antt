@@ -18,14 +18,14 @@ use Rattle.wesl_link_reach.proofs.Following.{puts_has, puts_on}
 use Rattle.wesl_link_reach.proofs.Growing.{within_on, distinct_push, goes_on_itself, goes_on_trans}
 use Rattle.wesl_link_reach.proofs.Growth.{at_more, entered_more}
 use Rattle.wesl_link_reach.proofs.Lists.{contains_map, last_place, place_kept}
-use Rattle.wesl_link_faults.specs.declared.absence.Absence.{Absence}
-use Rattle.wesl_link_faults.specs.declared.absence.Absence.TheVariants.{TurnedAway, Crowded}
+use Rattle.wesl_link_flaws.specs.declared.absence.Absence.{Absence}
+use Rattle.wesl_link_flaws.specs.declared.absence.Absence.TheVariants.{TurnedAway, Crowded}
 use Rattle.wesl_link_faults.specs.declared.loading.Loaded.{Loaded}
 use Rattle.wesl_link_faults.specs.declared.loading.Wanted.{Wanted}
-use Rattle.wesl_link_faults.specs.Flaws.{IsBare}
+use Rattle.wesl_link_flaws.specs.Flaws.{IsBare}
 use Rattle.wesl_link_faults.specs.Loading.{AreEntered, HasPlace, IsLoaded, IsNumbered, Moves, PutsAbsent, PutsTable, asked_in, tables_in, task_wanted}
 use Rattle.wesl_link_faults.specs.Opened.{HandsRoomy, IsAbsent}
-use Rattle.wesl_link_faults.proofs.Searching.{puts_cases, puts_keep}
+use Rattle.wesl_link_flaws.proofs.Searching.{puts_cases, puts_keep}
 
 -- ---- what may be asked for
 

@@ -13,9 +13,9 @@ use Rattle.wesl_link_reach.specs.World.Walk.{begin, step}
 use Rattle.wesl_link_reach.specs.World.Reached.{led_to}
 use Rattle.wesl_link_reach.specs.World.Followed.{kept as by_kept}
 use Rattle.wesl_link_reach.proofs.Lists.{contains_one}
-use Rattle.wesl_link_faults.specs.declared.asker.Asker.TheVariants.{Named}
-use Rattle.wesl_link_faults.specs.Askers.{AsksBy}
-use Rattle.wesl_link_faults.proofs.Asking.{followed_of}
+use Rattle.wesl_link_flaws.specs.declared.asker.Asker.TheVariants.{Named}
+use Rattle.wesl_link_flaws.specs.Askers.{AsksBy}
+use Rattle.wesl_link_flaws.proofs.Asking.{followed_of}
 use Rattle.wesl_link_faults.specs.Worlds.{behind, item, passing, hollow, main, root_of, keeping, lacking, ring, alone, WorldsAreSo}
 
 none_met : (a : LookUp ℕ ℕ) → HasMet [] a → ⊥

@@ -6,10 +6,10 @@ use Rattle.wesl_link_symbols.specs.Tables.{Table}
 use Rattle.wesl_link_reach.specs.World.{IsAt, Task, Entered, Reached, Followed}
 use Rattle.wesl_link_reach.specs.Faults.{Fault, duplicate, refused, missing, private, too_many, ambiguous, too_many_flags, Stands, Explained, AreDistinct}
 use Rattle.wesl_link_reach.specs.Linking.{Linking, IsLinked}
-use Rattle.wesl_link_faults.specs.declared.asker.Asker.{Asker}
-use Rattle.wesl_link_faults.specs.declared.absence.Absence.{Absence}
-use Rattle.wesl_link_faults.specs.declared.absence.Absence.TheVariants.{Crowded}
-use Rattle.wesl_link_faults.specs.Askers.{AsksBy, Brings, StandsBy}
+use Rattle.wesl_link_flaws.specs.declared.asker.Asker.{Asker}
+use Rattle.wesl_link_flaws.specs.declared.absence.Absence.{Absence}
+use Rattle.wesl_link_flaws.specs.declared.absence.Absence.TheVariants.{Crowded}
+use Rattle.wesl_link_flaws.specs.Askers.{AsksBy, Brings, StandsBy}
 use Rattle.wesl_link_faults.specs.Opened.{Finding, Opened, IsOpened}
 
 -- each look-up that is followed has its asker, each entered path but the root is brought by one, and a fault stands exactly

@@ -1,9 +1,3 @@
-pub mod Askers
-pub mod Flaws
-pub mod Keys
-pub mod Searching
-pub mod Taking
-pub mod Found
 pub mod Opened
 pub mod Loading
 pub mod Opening

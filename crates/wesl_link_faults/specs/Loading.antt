@@ -10,12 +10,12 @@ use Rattle.wesl_link_reach.specs.Faults.{AreDistinct}
 use Rattle.wesl_link_reach.specs.Linking.{paths}
 use Rattle.wesl_link_reach.specs.Loader.{IsReady}
 use Rattle.wesl_link_reach.specs.Loading.{GoesOn}
-use Rattle.wesl_link_faults.specs.declared.absence.Absence.{Absence}
+use Rattle.wesl_link_flaws.specs.declared.absence.Absence.{Absence}
 use Rattle.wesl_link_faults.specs.declared.loading.Loaded.{Loaded}
 use Rattle.wesl_link_faults.specs.declared.loading.Wanted.{Wanted}
-use Rattle.wesl_link_faults.specs.Flaws.{IsBare}
-use Rattle.wesl_link_faults.specs.Found.{task_from}
-use Rattle.wesl_link_faults.specs.Keys.{AreKeys}
+use Rattle.wesl_link_flaws.specs.Flaws.{IsBare}
+use Rattle.wesl_link_flaws.specs.Found.{task_from}
+use Rattle.wesl_link_flaws.specs.Keys.{AreKeys}
 use Rattle.wesl_link_faults.specs.Opened.{HandsRoomy, IsAbsent}
 
 -- what is linked

@@ -4,10 +4,10 @@ use Rattle.wesl_link_symbols.specs.Tables.{Table}
 use Rattle.wesl_link_reach.specs.World.{IsAt, IsWorld, Task, Entered}
 use Rattle.wesl_link_reach.specs.Faults.{Fault, refused, too_many, too_many_flags, AreDistinct}
 use Rattle.wesl_link_reach.specs.Linking.{paths}
-use Rattle.wesl_link_faults.specs.declared.asker.Asker.{Asker}
-use Rattle.wesl_link_faults.specs.declared.absence.Absence.{Absence}
-use Rattle.wesl_link_faults.specs.declared.absence.Absence.TheVariants.{TurnedAway, Crowded}
-use Rattle.wesl_link_faults.specs.Askers.{Brings, StandsBy}
+use Rattle.wesl_link_flaws.specs.declared.asker.Asker.{Asker}
+use Rattle.wesl_link_flaws.specs.declared.absence.Absence.{Absence}
+use Rattle.wesl_link_flaws.specs.declared.absence.Absence.TheVariants.{TurnedAway, Crowded}
+use Rattle.wesl_link_flaws.specs.Askers.{Brings, StandsBy}
 
 -- a fault, who asks for it, and the path at which it stands
 pub record Finding (P N E : Type 0) : Type 0 where

@@ -6,7 +6,7 @@ use Rattle.wesl_link_symbols.specs.Tables.{Table}
 use Rattle.wesl_link_reach.specs.declared.loader.Loader.{Ghosts}
 use Rattle.wesl_link_reach.specs.World.{Task}
 use Rattle.wesl_link_reach.specs.Faults as faults
-use Rattle.wesl_link_faults.specs.declared.absence.Absence.{Absence}
+use Rattle.wesl_link_flaws.specs.declared.absence.Absence.{Absence}
 use Rattle.wesl_link_faults.specs.declared.loading.Loaded.{Loaded}
 use Rattle.wesl_link_faults.specs.declared.open.Fault.{Fault}
 use Rattle.wesl_link_faults.specs.declared.open.Fault.TheVariants.{Duplicate, Absent, Missing, Private, Ambiguous, TooMany}
@@ -14,11 +14,11 @@ use Rattle.wesl_link_faults.specs.declared.open.Finding.{Finding}
 use Rattle.wesl_link_faults.specs.declared.open.Opened.{Opened}
 use Rattle.wesl_link_faults.specs.declared.open.OpenError.{OpenError}
 use Rattle.wesl_link_faults.specs.declared.open.OpenError.TheVariants.{NoRoom, CrowdedRoot, Memory}
-use Rattle.wesl_link_faults.specs.declared.told.Flaw.{Flaw}
-use Rattle.wesl_link_faults.specs.declared.told.Flaw.TheVariants.{Clash, NoModule, Lacking, Hidden, Unsure}
-use Rattle.wesl_link_faults.specs.declared.told.Told.{Told}
-use Rattle.wesl_link_faults.specs.declared.world.Findings.{Findings}
-use Rattle.wesl_link_faults.specs.Keys.{AreKeys}
+use Rattle.wesl_link_flaws.specs.declared.told.Flaw.{Flaw}
+use Rattle.wesl_link_flaws.specs.declared.told.Flaw.TheVariants.{Clash, NoModule, Lacking, Hidden, Unsure}
+use Rattle.wesl_link_flaws.specs.declared.told.Told.{Told}
+use Rattle.wesl_link_flaws.specs.declared.world.Findings.{Findings}
+use Rattle.wesl_link_flaws.specs.Keys.{AreKeys}
 use Rattle.wesl_link_faults.specs.Loading.{asked_in, tables_in}
 use Rattle.wesl_link_faults.specs.Opened as opened
 

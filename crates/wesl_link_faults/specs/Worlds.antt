@@ -6,9 +6,9 @@ use Rattle.wesl_link_symbols.specs.declared.symbols.Reference.{Reference}
 use Rattle.wesl_link_symbols.specs.Tables.{Declaration, Table}
 use Rattle.wesl_link_reach.specs.World.{Task}
 use Rattle.wesl_link_reach.specs.Faults.{missing, refused, Stands}
-use Rattle.wesl_link_faults.specs.declared.asker.Asker.TheVariants.{Named}
-use Rattle.wesl_link_faults.specs.declared.absence.Absence.TheVariants.{Crowded}
-use Rattle.wesl_link_faults.specs.Askers.{StandsBy}
+use Rattle.wesl_link_flaws.specs.declared.asker.Asker.TheVariants.{Named}
+use Rattle.wesl_link_flaws.specs.declared.absence.Absence.TheVariants.{Crowded}
+use Rattle.wesl_link_flaws.specs.Askers.{StandsBy}
 use Rattle.wesl_link_faults.specs.Opened.{IsAbsent}
 
 -- the name of the module at the path

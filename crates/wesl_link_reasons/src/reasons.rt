@@ -6,7 +6,7 @@ ghost use Rattle.wesl_link_reasons.specs.declared.found.Found.{Found};
 ghost use Rattle.wesl_link_reasons.specs.declared.node.Node.TheVariants.{Item, Module};
 ghost use Rattle.wesl_link_reasons.specs.Reasons.{IsUnbroken, task_from};
 ghost use Rattle.wesl_link_reach.specs.Faults.{AreDistinct};
-ghost use Rattle.wesl_link_reasons.specs.Found.{AreOrdered, AreReasons, Denies, Explains, LeadsBack, StandOnce};
+ghost use Rattle.wesl_link_reasons.specs.Found.{AreOrdered, AreReasons, Denies, Explains, IsFoundAt, LeadsBack, StandOnce};
 
 use crate::findings::Findings;
 use crate::found::Found;
@@ -86,6 +86,21 @@ fn chain_to(
 }
 
 impl Reasons {
+    /// Each node that is held, once, behind the one that asked for it first.
+    pub fn nodes(&self) -> &[Found]
+        ensures { result.now ≡ self.now }
+    {
+        &self.findings.nodes
+    }
+
+    /// Where a node stands among these, if it is held.
+    pub fn place_of(&self, node: Node<PathId, NameId>) -> Option<usize>
+        ensures found { IfSome result (IsFoundAt self.now node) }
+        ensures none { IfNone result (Denies self.now node) }
+    {
+        self.findings.place_of(node)
+    }
+
     /// Why a node is held in the link: nodes from a kept name or the root's module to it, each next one asked for by the one
     /// before, and none there twice (WESL, "Imports"). None where the node is not held. Refused for want of memory alone.
     pub fn of_node(

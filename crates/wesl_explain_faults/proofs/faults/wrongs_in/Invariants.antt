@@ -1,5 +1,5 @@
 use Rattle.std.proofs.Common.{take, Contains}
-use Rattle.wesl_link_faults.specs.Keys.{AreKeys}
+use Rattle.wesl_link_flaws.specs.Keys.{AreKeys}
 use Rattle.wesl_link_faults.specs.declared.open.Finding.{Finding}
 use Rattle.wesl_explain_faults.specs.declared.faults.Wrong.{Wrong}
 use Rattle.wesl_explain_faults.specs.Gathering.{IsFoundIn, wrong_in}

@@ -3,7 +3,7 @@ use Rattle.wesl_link_symbols.specs.declared.ids.PathId.{PathId}
 use Rattle.wesl_tree_base.specs.declared.ids.NameId.{NameId}
 use Rattle.wesl_link_symbols.specs.declared.symbols.Import.{Import}
 use Rattle.wesl_link_symbols.specs.Index.{Binds}
-use Rattle.wesl_link_faults.proofs.Over.{start, next}
+use Rattle.wesl_link_flaws.proofs.Over.{start, next}
 use Rattle.wesl_explain_faults.proofs.targets.add_imported.Goals as goal
 
 pub imports-init : goal.imports-init

@@ -4,7 +4,7 @@ use Rattle.wesl_tree_base.specs.declared.ids.NameId.{NameId}
 use Rattle.wesl_link_symbols.specs.declared.symbols.Import.{Import}
 use Rattle.wesl_link_symbols.specs.Index.{Binds}
 use Rattle.wesl_link_symbols.proofs.Indexing.{steps}
-use Rattle.wesl_link_faults.proofs.Over.{IsOver}
+use Rattle.wesl_link_flaws.proofs.Over.{IsOver}
 use Rattle.wesl_explain_faults.proofs.targets.add_imported.Given as goal
 
 abbrev pub invariant-imports : goal.invariant-imports

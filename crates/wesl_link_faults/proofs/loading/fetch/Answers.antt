@@ -1,6 +1,6 @@
 use Rattle.std.proofs.Common.{rules, sym, ◌∙◌}
 use Rattle.wesl_link_reach.proofs.Following.{puts_has}
-use Rattle.wesl_link_faults.specs.declared.absence.Absence.TheVariants.{TurnedAway, Crowded}
+use Rattle.wesl_link_flaws.specs.declared.absence.Absence.TheVariants.{TurnedAway, Crowded}
 use Rattle.wesl_link_faults.proofs.Placed.{absent_moves, loaded_absent, loaded_later, loaded_table, table_moves}
 use Rattle.wesl_link_faults.proofs.loading.fetch.Goals as goal
 

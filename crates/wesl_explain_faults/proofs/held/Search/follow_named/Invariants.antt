@@ -4,7 +4,7 @@ use Rattle.wesl_tree_base.specs.declared.ids.NameId.{NameId}
 use Rattle.wesl_link_symbols.specs.Index.{IsNamed}
 use Rattle.wesl_link_symbols.specs.Tables.{Declaration}
 use Rattle.wesl_link_symbols.proofs.Indexing.{steps}
-use Rattle.wesl_link_faults.proofs.Over.{IsOver}
+use Rattle.wesl_link_flaws.proofs.Over.{IsOver}
 use Rattle.wesl_explain_faults.proofs.held.Search.follow_named.Given as goal
 
 abbrev pub invariant-declarations : goal.invariant-declarations

@@ -1,5 +1,5 @@
 use Rattle.std.proofs.Common.{◌-◌, ◌^◌, vec_len}
-use Rattle.wesl_link_faults.specs.Keys.{AreKeys}
+use Rattle.wesl_link_flaws.specs.Keys.{AreKeys}
 use Rattle.wesl_explain_ways.proofs.way.Rings.walk.Given as goal
 
 abbrev pub invariant-hops : goal.invariant-hops

@@ -1,0 +1,12 @@
+pub mod Asking
+pub mod Halting
+pub mod Searching
+pub mod Closing
+pub mod Placing
+pub mod Over
+pub mod Clashing
+pub mod Keeping
+pub mod Walking
+pub mod Ways
+pub mod Taking
+pub mod Turning
