@@ -62,6 +62,22 @@ static int begins(const struct wesl_buffer *line, const char *start) {
     return line->length > strlen(start) && !memcmp(line->bytes, start, strlen(start)) && line->bytes[line->length - 1] == '\n';
 }
 
+/* A text is linked, and a fault of one tells its module and its place. */
+static void try_texts(void) {
+    const char *bundle = "{\"root\":\"package::m\",\"eager\":true,\"modules\":[{\"path\":\"package::m\",\"unit\":\"const k=1;\"}]}";
+    const char *broken = "{\"root\":\"package::m\",\"modules\":[{\"path\":\"package::m\",\"unit\":\"const k 1;\"}]}";
+    const char *wanted = "{\"clash\":false,\"map\":{},\"text\":\"const k = 1;\\n\"}\n";
+    const char *fault = "{\"args\":[\"expected `=`, found `1`\"],\"fault\":\"BadTree\",\"module\":\"package::m\",\"span\":[8,8]}\n";
+    struct wesl_buffer line = {0};
+    uint32_t status = wesl_link_texts_grow((const uint8_t *)bundle, strlen(bundle), &line);
+    check(status == WESL_LINKED && line.length == strlen(wanted) && !memcmp(line.bytes, wanted, line.length), "a linked text");
+    status = wesl_link_texts_grow((const uint8_t *)broken, strlen(broken), &line);
+    check(status == WESL_REFUSED && line.length == strlen(fault) && !memcmp(line.bytes, fault, line.length), "a text that says no unit");
+    status = wesl_link_texts_grow(NULL, 0, &line);
+    check(status == WESL_REFUSED && begins(&line, "{\"args\":[],\"fault\":\"NotJson\"}"), "null for no texts");
+    free(line.bytes);
+}
+
 /* A buffer that is too short has the beginning of the line, and what lies behind a line stays. */
 static void try_short_buffer(void) {
     const uint8_t bundle[] = "{}";
@@ -151,6 +167,7 @@ int main(int count, char **names) {
     check(wesl_version() == WESL_VERSION, "the version");
     try_short_buffer();
     try_growth();
+    try_texts();
     const char *constant = "{\"k\":\"const\",\"name\":\"k\",\"init\":";
     try_depth(constant, "{\"k\":\"paren\",\"expr\":", "true", "}", "}");
     try_depth(constant, "{\"k\":\"unary\",\"op\":\"!\",\"expr\":", "true", "}", "}");

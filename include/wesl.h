@@ -25,7 +25,7 @@ extern "C" {
 #define WESL_LINKED 0
 /* The line tells a fault. */
 #define WESL_REFUSED 1
-/* There is no line, as memory was refused for it. Only wesl_link_grow answers so. */
+/* There is no line, as memory was refused for it. Only wesl_link_grow and wesl_link_texts_grow answer so. */
 #define WESL_NO_ROOM 2
 
 /* The version of the library, as a number like WESL_VERSION. A library whose version is not below WESL_VERSION, and which has the
@@ -49,6 +49,12 @@ uint32_t wesl_link_bundle(const uint8_t *bundle, size_t bundle_length,
                           uint8_t *buffer, size_t buffer_length,
                           size_t *needed);
 
+/* Links a bundle each unit of which is a text, the shader text of its module as a JSON string, and answers as wesl_link_bundle does,
+ * of which all else holds here: an answer has the text of the linked unit in place of a tree (docs/FORMAT.md, Bundles of texts). */
+uint32_t wesl_link_texts(const uint8_t *bundle, size_t bundle_length,
+                         uint8_t *buffer, size_t buffer_length,
+                         size_t *needed);
+
 /* A buffer for lines, which only grows: the first `length` of the `room` bytes at `bytes` are the last line. It begins with
  * all three 0, as `struct wesl_buffer buffer = {0};`, and its bytes go by `free`. */
 struct wesl_buffer {
@@ -68,14 +74,14 @@ static inline int wesl_buffer_reserve(struct wesl_buffer *buffer, size_t room) {
     return buffer->bytes != NULL;
 }
 
-/* Links the bundle as wesl_link_bundle does, and leaves the whole line in the buffer. Answers WESL_LINKED, WESL_REFUSED, or
- * WESL_NO_ROOM, and then there is no line. Here `bundle` may be null where its length is 0.
- *
- * The buffer is first given room for 65,536 bytes and twice as many as the bundle has, which is enough for nearly every line.
- * Only where the line is longer than the room, the bundle is linked a second time: with one buffer for many links that happens
- * only to a line which is longer than all before.
- */
-static inline uint32_t wesl_link_grow(const uint8_t *bundle, size_t bundle_length, struct wesl_buffer *buffer) {
+/* One of the two calls above. */
+typedef uint32_t wesl_link_call(const uint8_t *bundle, size_t bundle_length,
+                                uint8_t *buffer, size_t buffer_length,
+                                size_t *needed);
+
+/* What wesl_link_grow and wesl_link_texts_grow have in common: which call they make. */
+static inline uint32_t wesl_grow_by(wesl_link_call *link, const uint8_t *bundle, size_t bundle_length,
+                                    struct wesl_buffer *buffer) {
     const uint8_t nothing = 0;
     size_t needed = 65536 + 2 * bundle_length;
     uint32_t status;
@@ -84,10 +90,26 @@ static inline uint32_t wesl_link_grow(const uint8_t *bundle, size_t bundle_lengt
     do {
         if (!wesl_buffer_reserve(buffer, needed))
             return WESL_NO_ROOM;
-        status = wesl_link_bundle(bundle, bundle_length, buffer->bytes, buffer->room, &needed);
+        status = link(bundle, bundle_length, buffer->bytes, buffer->room, &needed);
     } while (needed > buffer->room);
     buffer->length = needed;
     return status;
+}
+
+/* Links the bundle as wesl_link_bundle does, and leaves the whole line in the buffer. Answers WESL_LINKED, WESL_REFUSED, or
+ * WESL_NO_ROOM, and then there is no line. Here `bundle` may be null where its length is 0.
+ *
+ * The buffer is first given room for 65,536 bytes and twice as many as the bundle has, which is enough for nearly every line.
+ * Only where the line is longer than the room, the bundle is linked a second time: with one buffer for many links that happens
+ * only to a line which is longer than all before.
+ */
+static inline uint32_t wesl_link_grow(const uint8_t *bundle, size_t bundle_length, struct wesl_buffer *buffer) {
+    return wesl_grow_by(wesl_link_bundle, bundle, bundle_length, buffer);
+}
+
+/* The same of a bundle of texts, as wesl_link_texts links it. */
+static inline uint32_t wesl_link_texts_grow(const uint8_t *bundle, size_t bundle_length, struct wesl_buffer *buffer) {
+    return wesl_grow_by(wesl_link_texts, bundle, bundle_length, buffer);
 }
 
 #ifdef __cplusplus

@@ -55,6 +55,23 @@ class Links(unittest.TestCase):
             wesl.link(b"")
         self.assertEqual(caught.exception.kind, "NotJson")
 
+    def test_texts_are_linked_to_a_text(self):
+        files = sorted((EXAMPLES / "texts").glob("*.json"))
+        self.assertGreater(len(files), 1)
+        for file in files:
+            with self.subTest(file.stem):
+                wanted = file.with_suffix(".out").read_bytes()
+                is_answer, line = wesl.link_texts_line(file.read_bytes())
+                self.assertEqual(line, wanted)
+                self.assertEqual(is_answer, "fault" not in json.loads(wanted))
+        answer = wesl.link_texts({"root": "package::m", "eager": True, "modules": [{"path": "package::m", "unit": "const k=1;"}]})
+        self.assertEqual((answer.text, answer.clash, answer.map), ("const k = 1;\n", False, {}))
+        with self.assertRaises(wesl.Fault) as caught:
+            wesl.link_texts({"root": "package::m", "modules": [{"path": "package::m", "unit": "const k 1;"}]})
+        fault = caught.exception
+        self.assertEqual((fault.kind, fault.module, fault.span), ("BadTree", "package::m", (8, 8)))
+        self.assertEqual(fault.arguments, ["expected `=`, found `1`"])
+
     def test_a_line_longer_than_the_first_buffer_is_whole(self):
         self.assertEqual(len(wesl.link(long_bundle("m" * 2000, 200)).map), 200)
 

@@ -37,7 +37,7 @@ kinds! {
     NotJson,
     /// The input is no bundle.
     BadBundle,
-    /// The unit of a loaded module is no tree.
+    /// The unit of a loaded module is no tree; of a bundle of texts, it is no text that says one.
     BadTree,
     /// There is no module at a path.
     ModuleNotFound,
@@ -75,6 +75,8 @@ kinds! {
     ParamCount,
     /// A declaration needs itself.
     Cycle,
+    /// No text says the linked unit.
+    NoText,
     /// A type is not written as the linker writes types.
     NotNormalType,
     /// There is no file.
@@ -94,7 +96,7 @@ pub struct Fault {
     pub args: Vec<String>,
     /// The fault in words.
     pub message: String,
-    /// The module that it is in, known where the bundle asks for `"form":2`.
+    /// The module that it is in, known where the bundle asks for `"form":2` or is one of texts.
     pub module: Option<String>,
     /// The bytes of that module's source that it is at, where they are known.
     pub span: Option<Range<u32>>,
@@ -152,7 +154,8 @@ fn message_of(kind: Kind, args: &[String]) -> String {
     match (kind, args.as_slice()) {
         (Kind::NotJson, []) => "the bundle is no JSON".into(),
         (Kind::BadBundle, [place]) => format!("no bundle, at `{place}`"),
-        (Kind::BadTree, [place]) => format!("no tree, at `{place}` of the unit"),
+        (Kind::BadTree, [place]) if place.is_empty() || place.starts_with('/') => format!("no tree, at `{place}` of the unit"),
+        (Kind::BadTree, [reason]) => (*reason).into(),
         (Kind::ModuleNotFound, [path, why]) => format!("no module `{path}`: {why}"),
         (Kind::DuplicateSymbol, [name]) => format!("a module has `{name}` from two places"),
         (Kind::AmbiguousSymbol, [name]) => format!("`{name}` may mean several imports"),
@@ -171,6 +174,7 @@ fn message_of(kind: Kind, args: &[String]) -> String {
         (Kind::NotCallable, [name]) => format!("`{name}` cannot be called"),
         (Kind::ParamCount, [name, expected, got]) => format!("`{name}` takes {expected} arguments, not {got}"),
         (Kind::Cycle, [name, via]) => format!("`{name}` needs itself, by `{via}`"),
+        (Kind::NoText, [reason]) => format!("no text says the linked unit: {reason}"),
         (Kind::NotNormalType, []) => "a type is not in normal form".into(),
         (Kind::FileNotFound, [path, why]) => format!("no file `{path}`: {why}"),
         (Kind::UnknownLine, [line]) => format!("the library answers `{line}`"),

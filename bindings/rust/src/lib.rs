@@ -21,9 +21,9 @@ mod fault;
 mod json;
 mod library;
 
-pub use answer::{Answer, Item};
+pub use answer::{Answer, Item, TextAnswer};
 pub use fault::{Fault, Kind};
-pub use library::{Line, library_version, link_line};
+pub use library::{Line, library_version, link_line, link_texts_line};
 
 /// Links a bundle.
 ///
@@ -31,4 +31,15 @@ pub use library::{Line, library_version, link_line};
 pub fn link(bundle: &str) -> Result<Answer, Fault> {
     let line = link_line(bundle.as_bytes());
     if line.is_answer { Answer::of_line(&line.text) } else { Err(Fault::of_line(&line.text)) }
+}
+
+/// Links a bundle of texts, each unit of which is a JSON string: the shader text of its module.
+///
+/// ```
+/// let bundle = r#"{"root":"package::main","keep":["size"],"modules":[{"path":"package::main","unit":"const size=4;"}]}"#;
+/// assert_eq!(baqrizen::link_texts(bundle).unwrap().text, "const size = 4;\n");
+/// ```
+pub fn link_texts(bundle: &str) -> Result<TextAnswer, Fault> {
+    let line = link_texts_line(bundle.as_bytes());
+    if line.is_answer { TextAnswer::of_line(&line.text) } else { Err(Fault::of_line(&line.text)) }
 }

@@ -1,11 +1,16 @@
 //! The examples of the repository, and what is told of them.
-use baqrizen::{Answer, Item, Kind, library_version, link, link_line};
+use baqrizen::{Answer, Item, Kind, library_version, link, link_line, link_texts, link_texts_line};
 use std::fs;
 use std::path::{Path, PathBuf};
 
 /// The bundles of the folder examples/, each with its line.
 fn examples() -> Vec<(PathBuf, Vec<u8>, String)> {
-    let folder = Path::new(env!("CARGO_MANIFEST_DIR")).join("../../examples");
+    examples_in("../../examples")
+}
+
+/// The bundles of a folder, each with its line.
+fn examples_in(folder: &str) -> Vec<(PathBuf, Vec<u8>, String)> {
+    let folder = Path::new(env!("CARGO_MANIFEST_DIR")).join(folder);
     let mut found = Vec::new();
     for entry in fs::read_dir(folder).unwrap() {
         let path = entry.unwrap().path();
@@ -83,6 +88,23 @@ fn a_fault_tells_what_and_where() {
     assert_eq!((fault.module.as_deref(), fault.span.clone()), (Some("package::m"), Some(4..5)));
     assert_eq!(fault.to_string(), "package::m: a condition is no formula of flags");
     assert_eq!(link("").unwrap_err().kind, Kind::NotJson);
+}
+
+#[test]
+fn texts_are_linked_to_a_text() {
+    let texts = examples_in("../../examples/texts");
+    assert!(texts.len() > 1);
+    for (path, bundle, wanted) in texts {
+        let line = link_texts_line(&bundle);
+        assert_eq!(line.text, wanted, "{}", path.display());
+        match link_texts(&String::from_utf8(bundle).unwrap()) {
+            Ok(answer) => assert!(line.is_answer && !answer.text.is_empty(), "{}", path.display()),
+            Err(fault) => assert!(!line.is_answer && fault.kind != Kind::UnknownLine, "{}", path.display()),
+        }
+    }
+    let fault = link_texts(r#"{"root":"package::m","modules":[{"path":"package::m","unit":"const k 1;"}]}"#).unwrap_err();
+    assert_eq!((fault.kind, fault.span.clone()), (Kind::BadTree, Some(8..8)));
+    assert_eq!(fault.to_string(), "package::m: expected `=`, found `1`");
 }
 
 #[test]

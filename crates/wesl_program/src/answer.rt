@@ -1,6 +1,6 @@
 //! The line of an answer.
 ghost use Rattle.std.specs.Prelude.{◌≡◌, IfOk, string_bytes};
-ghost use Rattle.wesl_program.specs.Answers.{IsLineOf};
+ghost use Rattle.wesl_program.specs.Answers.{IsLineOf, PrintsMap};
 ghost use Rattle.wesl_program.specs.Line.{answer_beginning};
 
 use crate::map_text::print_map;
@@ -26,11 +26,22 @@ pub struct Answer {
 pub fn answer_line(alloc: Global, answer: &Answer) -> Result<String, AllocError>
     ensures { IfOk result (λ s. IsLineOf answer.now (string_bytes s)) }
 {
-    let text = String::from_str(alloc, beginning(answer.clash))?;
-    let text = print_map(alloc, text, &answer.map)?;
+    let text = answer_head(alloc, answer.clash, &answer.map)?;
     let text = print_text(text, ",\"unit\":")?;
     let text = print_unit(alloc, text, answer.spans, &answer.unit)?;
     print_text(text, "}\n")
+}
+
+/// The line of an answer up to its map, with that.
+pub fn answer_head(
+    alloc: Global,
+    clash: bool,
+    source_map: &BasicSourceMap,
+) -> Result<String, AllocError>
+    ensures { IfOk result (λ s. PrintsMap source_map.now (answer_beginning clash) (string_bytes s)) }
+{
+    let text = String::from_str(alloc, beginning(clash))?;
+    print_map(alloc, text, source_map)
 }
 
 // What stands before the map.

@@ -65,8 +65,12 @@ impl Resolver for BundleSources<'_> {
 }
 
 impl<'t> BundleSources<'t> {
-    // The value of the unit at a path.
-    fn value_at(&self, alloc: Global, path: &ModulePath) -> Result<&BorrowedValue<'t>, ResolveError>
+    /// The value of the unit at a path, which is not read yet.
+    pub fn value_at(
+        &self,
+        alloc: Global,
+        path: &ModulePath,
+    ) -> Result<&BorrowedValue<'t>, ResolveError>
         ensures found { IfOk result (λ v. found_in self.now (path_view path.now) ≡ Ok (borrowed_view v.now)) }
         ensures missing { IfErr result (OrMemory (IsSaid (path_view path.now) (found_in self.now (path_view path.now)))) }
     {

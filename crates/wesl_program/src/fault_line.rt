@@ -5,7 +5,8 @@ ghost use Rattle.serde_json.specs.Data.{array, string, member, no_members, put};
 ghost use Rattle.serde_json.specs.View.{view, items_view, members_view};
 ghost use Rattle.wesl_json_form.specs.Writing.{span_value};
 ghost use Rattle.wesl_program.specs.Fault.{fault, fault_of, fault_of_condition, fault_of_import, fault_of_resolver, fault_of_validation, path_text};
-ghost use Rattle.wesl_program.specs.Line.{fault_members, line_of, texts_value, told_value, with_home, with_span};
+ghost use Rattle.wesl_program.specs.Line.{fault_line, fault_members, line_of, texts_value, told_value, with_home, with_span};
+ghost use Rattle.wesl_program.specs.Places.{nowhere};
 ghost use Rattle.wesl_program.specs.Told.{where_told};
 
 use crate::path_text::path_text;
@@ -16,15 +17,27 @@ use std::alloc::{AllocError, Global};
 use wesl_tree::{CondCompError, Error, ImportError, ModulePath, ResolveError, Span, ValidateError};
 
 /// The line of an error that stands at a place.
-pub(crate) fn fault_line(
-    alloc: Global,
-    error: &Error,
-    place: Told<'_>,
-) -> Result<String, AllocError>
+pub fn placed_line(alloc: Global, error: &Error, place: Told<'_>) -> Result<String, AllocError>
     ensures { IfOk result (λ s. string_bytes s ≡ line_of (told_value (fault_of error.now) (where_told place.entry))) }
 {
     let value = told_value(alloc, error, place)?;
     text_line(alloc, &value)
+}
+
+/// The line of a fault of this name with these arguments, which tells no place.
+pub fn named_line(alloc: Global, name: &str, arguments: &[&str]) -> Result<String, AllocError>
+    ensures { IfOk result (λ s. string_bytes s ≡ fault_line (fault name.now (map (λ t. t.now) arguments.now))) }
+{
+    let value = named_value(alloc, name, arguments)?;
+    text_line(alloc, &value)
+}
+
+// A fault of this name with these arguments, which tells no place.
+fn named_value(alloc: Global, name: &str, arguments: &[&str]) -> Result<Value, AllocError>
+    ensures { IfOk result (λ v. view v ≡ told_value (fault name.now (map (λ t. t.now) arguments.now)) nowhere) }
+{
+    let members = fault_members(alloc, name, arguments)?;
+    Ok(Value::Object(members))
 }
 
 // An error and where it stands.

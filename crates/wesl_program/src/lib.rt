@@ -19,11 +19,14 @@ mod text_line;
 mod validity;
 mod whole_answer;
 
+pub use answer::answer_head;
 pub use bundle_resolver::BundleSources;
 pub use bundle_value::bundle_of_bytes;
+pub use fault_line::{named_line, placed_line};
 pub use lines::{Line, memory_line, refusal_line};
-pub use linking::sources_of;
+pub use linking::{names, sources_of};
 pub use naming::BundleMangler;
+pub use place::Told;
 pub use refusal::Refusal;
 pub use streams::{NotedStream, ReadFault, read_whole, write_whole};
 pub use whole_answer::answer_of_bytes;

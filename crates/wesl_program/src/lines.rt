@@ -5,7 +5,7 @@ ghost use Rattle.wesl_program.specs.Fault.{fault_of};
 ghost use Rattle.wesl_program.specs.Line.{TellsFault, fault_line, memory};
 ghost use Rattle.wesl_program.specs.Made.{bytes_of};
 
-use crate::fault_line::fault_line;
+use crate::fault_line::placed_line;
 use crate::place::place_told;
 use crate::refusal::Refusal;
 use std::alloc::Global;
@@ -44,7 +44,7 @@ pub fn refusal_line(alloc: Global, refusal: Refusal) -> Line
     ensures { TellsFault refusal.is_placed (fault_of (out-Diagnostic refusal.diagnostic).error) (bytes_of result) }
 {
     let place = place_told(&refusal);
-    let line = match fault_line(alloc, &refusal.diagnostic.error, place).ok() {
+    let line = match placed_line(alloc, &refusal.diagnostic.error, place).ok() {
         Some(line) => Line::Made(line),
         None => memory_line(),
     };

@@ -153,7 +153,8 @@ pub fn sources_of<'t>(
     Ok(BundleSources { modules, packages })
 }
 
-fn names<'b>(alloc: Global, keep: &'b [String]) -> Result<Vec<&'b str>, AllocError>
+/// The names, lent. Refused for want of memory alone.
+pub fn names<'b>(alloc: Global, keep: &'b [String]) -> Result<Vec<&'b str>, AllocError>
     ensures { IfOk result (λ v. texts v.items ≡ map string_bytes keep.now) }
 {
     let mut names = Vec::with_capacity(alloc, keep.len())?;

@@ -11,11 +11,11 @@ use wesl_tree::{Diagnostic, Error, ImportError, ModulePath, ResolveError, Span};
 
 /// Where a fault stands, as far as it is told.
 #[derive(Clone, Copy)]
-pub(crate) struct Told<'d> {
+pub struct Told<'d> {
     /// The module that holds the fault.
-    pub(crate) module: Option<&'d ModulePath>,
+    pub module: Option<&'d ModulePath>,
     /// The place in the module's source.
-    pub(crate) span: Option<Span>,
+    pub span: Option<Span>,
 }
 
 /// Where the fault of a refusal stands: nowhere, where its place is not told.
