@@ -1,5 +1,5 @@
 -- Equality of answers and of sets of them.
-use Rattle.std.proofs.Common.{◌≡◌, Bool, true, false, cond, ◌&&◌, List, [], ◌∷◌, Some, String, Global, string_bytes, refl, sym, ap, ◌∙◌}
+use Rattle.std.proofs.Common.{◌≡◌, Bool, cond, ◌&&◌, List, [], ◌∷◌, Some, String, Global, string_bytes, refl, sym, ap, ◌∙◌}
 use Rattle.std.specs.Bool.{Decides}
 use Rattle.std.specs.BTreeMap.{BTreeMap, IsOrdered, get_by_text, is_at}
 use Rattle.std.specs.Cmp.Lexicographic.{pointwise, slice_cmp}
@@ -15,13 +15,8 @@ use Rattle.wesl_cond_features.specs.declared.features.Features.{Features}
 use Rattle.wesl_cond_features.specs.contracts.features.FeaturePartialEq.TheImpl as answers
 use Rattle.wesl_cond_features.specs.contracts.features.FeaturesPartialEq.TheImpl as sets
 use Rattle.wesl_tree_names.specs.Path.{Text}
-
-along : {P Q : Type 0} {r : Bool} → Decides r P → (P → Q) → (Q → P) → Decides r Q
-along d there back = (λ e. there (d.0 e), λ q. d.1 (back q))
-
-both : {P Q : Type 0} (r s : Bool) → Decides r P → Decides s Q → Decides (r && s) (P × Q)
-both true s d e = (λ h. (d.0 refl, e.0 h), λ pq. e.1 pq.1)
-both false s d e = (λ h. cc, λ pq. d.1 pq.0)
+use Rattle.wesl_tree_base.proofs.Deciding.{along}
+use Rattle.std.proofs.lemmas.Bool.Decides.{Decides-and as both}
 
 -- Answers.
 pub answers_decided : (x y : Feature) → Decides ((answers.ghosts).eq x y) (x ≡ y)

@@ -2,8 +2,8 @@
 use Rattle.std.proofs.Common.{◌≡◌, ℕ, zero, suc, ◌+◌, add-one, append-nil, Bool, true, false, ◌&&◌, cond, List, [], ◌∷◌, ◌++◌, length, map, drop, refl, ap, ◌∙◌, sym}
 use Rattle.std.specs.Prelude.{Some, None, Option}
 use Rattle.std.specs.Global.{Box, Vec}
-use Rattle.wesl_tree_syntax.specs.Tree.{Tree, Forest, Kind, branch, leaf as leaf_tree, kind, absent, present, list, reference, type_expression, binder, declaration, before, end, tree, at, attribute_node, forest_of, compound, statements, loop, continuing}
-use Rattle.wesl_tree_syntax.specs.View.{attributes_tree, boxed_path, expression_tree, ident_tree, kind_tree, optional, type_view}
+use Rattle.wesl_tree_syntax.specs.Tree.{Tree, Forest, Kind, branch, leaf as leaf_tree, kind, absent, present, list, reference, type_expression, before, end, tree, at, attribute_node, forest_of, compound, statements, loop, continuing}
+use Rattle.wesl_tree_syntax.specs.View.{attributes_tree, boxed_path, expression_tree, ident_tree, optional, type_view}
 use Rattle.wesl_tree_syntax.specs.declared.attribute.Attribute.{Attribute}
 use Rattle.wesl_tree_syntax.specs.declared.declaration.DeclarationKind.{DeclarationKind}
 use Rattle.wesl_tree_syntax.specs.declared.declaration.DeclarationKind.TheVariants as kinds
@@ -25,6 +25,7 @@ use Rattle.wesl_cond_alive.specs.Noted.{Becomes, WalksAs, with_mark}
 use Rattle.wesl_cond_alive.specs.declared.walk.Walk.{Walk}
 use Rattle.wesl_cond_alive.proofs.Steps.{walked_as}
 use Rattle.wesl_tree_syntax.proofs.Views.{type_of}
+use Rattle.wesl_tree_syntax.proofs.Seen.{value_tree}
 
 -- a type, which names itself
 pub plain_type_joined : (here : Here) (s : State ℕ) (p : Option (Box ModulePath)) (i : Ident)
@@ -175,9 +176,6 @@ module _ {X : Type 0} (view : X → Tree) where
   some_last here there s n places x e = rw e (placed_by (whole_here here) (drop n places) s (view x))
 
 -- ---- declared values
-
-abbrev pub value_tree : Vec (Spanned Attribute) → DeclarationKind → Ident → Option TypeExpression → Option (Spanned Expression) → Tree
-value_tree a k x t e = branch declaration (attributes_tree a ∷ kind_tree k ∷ ident_tree binder x ∷ optional type_view t ∷ optional expression_tree e ∷ [])
 
 abbrev value_walk : Here → State ℕ → Vec (Spanned Attribute) → Ident → Option TypeExpression → Option (Spanned Expression) → State ℕ
 value_walk here s a x t e =

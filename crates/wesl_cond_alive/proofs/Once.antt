@@ -58,14 +58,6 @@ names_more names xs i d old new h e is =
     ∙ ap (λ ys. once (map (name_in names) ys)) (map-append (λ (j : Ident). j.0) (take i xs) (x ∷ []))
     ∙ ap once (map-append (name_in names) (map (λ j. j.0) (take i xs)) (x.0 ∷ [])))
 
-pub or_left : (a b : Bool) → (a || b) ≡ false → a ≡ false
-or_left true b e = e
-or_left false b e = refl
-
-pub or_right : (a b : Bool) → (a || b) ≡ false → b ≡ false
-or_right true b e = cc
-or_right false b e = e
-
 -- what is ensured where a call succeeds
 pub if_ok : {A E : Type 0} (r : Result A E) (Q : Type 0) → is_err r ≡ false → IfOk r (λ x. Q) → Q
 if_ok (Ok x) Q e h = h

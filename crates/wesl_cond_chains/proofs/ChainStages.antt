@@ -11,7 +11,8 @@ use Rattle.wesl_cond_chains.specs.Chains.{Condition, none, on, else_on, otherwis
 use Rattle.wesl_cond_features.specs.Branch.{fate, kept_after, decided_after}
 use Rattle.wesl_cond_chains.proofs.Walk.{enact, scan}
 use Rattle.wesl_cond_chains.proofs.FormulaStages.{is_always, is_never, residual_in_stages}
-use Rattle.wesl_cond_chains.proofs.ChainTurns.{and-false, scan_is}
+use Rattle.wesl_cond_chains.proofs.ChainTurns.{scan_is}
+use mathlib.Core.Bool.{and-false}
 
 -- a node in one role may come into another in a later stage
 abbrev pub Goes : Role → Role → Type 0

@@ -8,10 +8,7 @@ use Rattle.wesl_cond_chains.specs.Chains.{Judged, is_node, is_branch, branch, is
 use Rattle.wesl_cond_chains.specs.Following.{IsTurn}
 use Rattle.wesl_cond_features.specs.Branch.{fate, kept_after, decided_after}
 use Rattle.wesl_cond_chains.proofs.Walk.{enact, scan}
-
-pub and-false : (b : Bool) → b && false ≡ false
-and-false true = refl
-and-false false = refl
+use mathlib.Core.Bool.{and-false}
 
 module _ {I N : Type 0} (J : Judged I N) where
   rest_nil : (known : Answers I) (kept decided : Bool) → rest_of_chain J known kept decided [] ≡ []

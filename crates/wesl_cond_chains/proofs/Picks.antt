@@ -17,13 +17,15 @@ use Rattle.wesl_tree_syntax.specs.Unit.{UnitOf}
 use Rattle.wesl_cond_chains.specs.Residual.{residual_forest, residual_tree, residual_unit}
 use Rattle.wesl_cond_chains.specs.Picked.{Choice, chosen, is_true, picked_chain, picked_list, picked_forest, picked_tree, picked_unit}
 use Rattle.wesl_cond_chains.proofs.FormulaStages.{is_always, is_never}
-use Rattle.wesl_cond_chains.proofs.ChainTurns.{and-false, scan_is}
+use Rattle.wesl_cond_chains.proofs.ChainTurns.{scan_is}
 use Rattle.wesl_cond_chains.proofs.ChainStages.{Goes, Laws, follows-if, follows-elif, follows-else}
 use Rattle.wesl_cond_chains.proofs.NodeLaws.{element_laws}
 use Rattle.wesl_cond_chains.proofs.Passing.{first_children, through_again}
 use Rattle.wesl_cond_chains.proofs.TreeStages.{residual_tidy}
 use Rattle.wesl_tree_syntax.specs.Tree.{ForestOf, TreeOf, end, tree}
 use Rattle.wesl_tree_base.specs.declared.span.Span.{Span}
+use mathlib.Core.Bool.{or-false}
+use mathlib.Core.Bool.{and-false}
 
 -- flags that are answered are so in the choice
 abbrev pub Agrees : {I : Type 0} → Choice I → Answers I → Type 0
@@ -32,10 +34,6 @@ Agrees {I} choice known = (flag : I) → or_else (known flag) (chosen choice fla
 and-true : (b : Bool) → b && true ≡ b
 and-true true = refl
 and-true false = refl
-
-or-false : (b : Bool) → b || false ≡ b
-or-false true = refl
-or-false false = refl
 
 or-true : (b : Bool) → b || true ≡ true
 or-true true = refl

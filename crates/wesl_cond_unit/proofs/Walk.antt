@@ -7,7 +7,7 @@ use Rattle.wesl_cond_features.specs.Branch.{fate, kept_after, decided_after}
 use Rattle.wesl_cond_features.specs.Answers.{Answers}
 use Rattle.wesl_cond_features.specs.declared.features.Truth.{Truth}
 use Rattle.wesl_cond_features.specs.declared.features.Truth.TheVariants.{Yes, No, Undecided}
-use Rattle.wesl_cond_chains.proofs.ChainTurns.{and-false}
+use mathlib.Core.Bool.{and-false}
 
 module _ {I N : Type 0} (J : Judged I N) where
   abbrev pub enact : Answers I → Option Role → N → List N → List N

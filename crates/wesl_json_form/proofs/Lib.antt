@@ -5,3 +5,4 @@ pub mod Lists
 pub mod Known
 pub mod Turns
 pub mod Views
+pub mod Depths

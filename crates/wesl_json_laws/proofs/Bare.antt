@@ -11,7 +11,7 @@ use Rattle.wesl_json_form.specs.Nodes.{NodeWords, by_word, nodes_of, all_express
 use Rattle.wesl_json_form.specs.Writing.{fits_head, fits_row, first_fit, candidates}
 use Rattle.wesl_json_laws.specs.Places.{is_place}
 use mathlib.Core.Bool.{and-true}
-use Rattle.wesl_json_light.proofs.Keys.{and_left, and_right}
+use Rattle.wesl_tree_base.proofs.Truth.{and_right, and_left}
 
 abbrev pub is_unit : Name → Bool
 is_unit a_unit = true

@@ -8,7 +8,8 @@ use Rattle.wesl_json_form.specs.Schema.{SpelledForest, SpelledLabel, Leaf, an_id
 use Rattle.wesl_json_form.specs.Writing.{texts_value, label_value, leaf_value, text_or_null, word_of, object_value, written, written_forest, short_value, first_fit, candidates, marks, unmarked, put_head, put_span, span_value, is_nowhere}
 use Rattle.wesl_json_light.specs.Numbers.{has_number, items_have_number, members_have_number}
 use Rattle.wesl_json_light.proofs.Rows.{keys, own_keys, span_key, members_of, is_in, out_of, out_left, out_right, span_out}
-use Rattle.wesl_json_light.proofs.Keys.{and_left, and_right, distinct, first_apart, here, in_left, in_right, later, left_apart, not_right, not_true, others_apart, right_apart}
+use Rattle.wesl_json_light.proofs.Keys.{distinct, first_apart, here, in_left, in_right, later, left_apart, not_right, not_true, others_apart, right_apart}
+use Rattle.wesl_tree_base.proofs.Truth.{and_right, and_left}
 use Rattle.wesl_json_light.proofs.Fitting.{IsLeaf, an_identifier, literal_text, free_text, name_text, names_text, path_text, a_word, HasHead, node_with, label_shown, word_key, with_word, put_word, IsPlainRow, Fits, a_leaf, a_list, plain_node, recast_node, worded_node, node_at, node_around, unit_node, short_node, AreFits, no_more, one_more, FitsRow, all_there, needed, left_out, put_in, listed, named, told, within, nowhere, somewhere, tree_of}
 use Rattle.wesl_json_laws.specs.Places.{is_place, has_place}
 use Rattle.wesl_json_laws.proofs.Numbers.{or_assoc, join, put_number, put_there}

@@ -15,7 +15,8 @@ use Rattle.wesl_json_light.proofs.Guards.{guard}
 use Rattle.wesl_json_light.proofs.Rows.{same_text}
 use Rattle.wesl_json_laws.specs.Places.{is_place, has_place}
 use Rattle.wesl_json_laws.proofs.Bare.{is_bare, are_bare}
-use Rattle.wesl_json_light.proofs.Keys.{and_left, and_right, not_true}
+use Rattle.wesl_json_light.proofs.Keys.{not_true}
+use Rattle.wesl_tree_base.proofs.Truth.{and_right, and_left}
 
 -- a label that has no empty name
 abbrev pub is_named : SpelledLabel → Bool

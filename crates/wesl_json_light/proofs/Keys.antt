@@ -9,19 +9,12 @@ use Rattle.serde_json.specs.Find.{get_member}
 use Rattle.wesl_tree_names.specs.Path.{Text}
 use Rattle.wesl_json_form.specs.Keys.{all_known}
 use Rattle.wesl_json_light.proofs.Rows.{is_in, out_left, out_right, same_text}
+use Rattle.wesl_tree_base.proofs.Truth.{and_left, and_right}
 
 -- no key stands twice
 abbrev pub distinct : List Text → Bool
 distinct [] = true
 distinct (k ∷ ks) = not (is_in k ks) && distinct ks
-
-pub and_left : (a b : Bool) → (a && b) ≡ true → a ≡ true
-and_left true b h = refl
-and_left false b h = h
-
-pub and_right : (a b : Bool) → (a && b) ≡ true → b ≡ true
-and_right true b h = h
-and_right false b h = absurd (let x : ⊥ = cc in x)
 
 pub not_true : (a : Bool) → not a ≡ true → a ≡ false
 not_true false h = refl

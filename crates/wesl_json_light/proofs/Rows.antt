@@ -11,6 +11,7 @@ use Rattle.wesl_tree_syntax.specs.Tree.{kind, at, ident, text, texts, truth, una
 use Rattle.wesl_json_form.specs.Schema.{SpelledForest, SpelledLabel, Row, nothing, marked, needs, may, many, given, inner, inner_where, Head, fixed, chosen, placed, beside}
 use Rattle.wesl_json_form.specs.Reading.{extra_key}
 use Rattle.wesl_json_form.specs.Writing.{written_forest, put_head, put_span, span_value, is_nowhere, is_absent, is_empty_array, text_or_null, word_of}
+use Rattle.wesl_tree_base.proofs.Truth.{or_left, or_right}
 
 -- the members of a row's trees, before others
 abbrev pub members_of : Bool → Row → SpelledForest → Members → Members
@@ -42,14 +43,6 @@ is_in k ks = list_any (λ x. bytes_eq x k) ks
 
 pub same_text : (k : Text) → bytes_eq k k ≡ true
 same_text k = (bytes_eq-Decides k k).1 refl
-
-pub or_left : (a b : Bool) → (a || b) ≡ false → a ≡ false
-or_left false b h = refl
-or_left true b h = h
-
-pub or_right : (a b : Bool) → (a || b) ≡ false → b ≡ false
-or_right false b h = h
-or_right true b h = absurd (let x : ⊥ = cc in x)
 
 pub apart : (k q : Text) → bytes_eq k q ≡ false → q ≡ k → ⊥
 apart k q h e = let x : bytes_eq k q ≡ true = (bytes_eq-Decides k q).1 (sym e) in let y : false ≡ true = sym h ∙ x in cc

@@ -8,7 +8,7 @@ use Rattle.wesl_tree_names.specs.Path.{Text}
 use Rattle.wesl_json_light.specs.Readable.{HaveNoFloat}
 use Rattle.wesl_json_light.proofs.Held.{IsKept, unit_kept}
 use Rattle.std.proofs.lemmas.Bool.{or_from}
-use Rattle.wesl_json_light.proofs.Rows.{or_left, or_right}
+use Rattle.wesl_tree_base.proofs.Truth.{or_right, or_left}
 
 abbrev Whole : Data → Type 0
 Whole d = has_float d ≡ false

@@ -12,7 +12,8 @@ use Rattle.wesl_json_print_nodes.specs.declared.printer.Printer.{Printer}
 use Rattle.wesl_json_print_nodes.proofs.Adding.{told}
 use Rattle.wesl_json_print_nodes.proofs.Parts.{Part, part, are_apart, arranged, list_part, object_events, option_part, option_put, placed_events, puts, span_part, events_of}
 use Rattle.wesl_json_words.specs.Values.{bare, call_members, expression_at, expression_data, expression_in, items_in, place_label, placed_data, truth_text, value_in, with_list, with_member, with_place}
-use Rattle.wesl_json_words.proofs.Expressions.{as-argued, as-binary, as-call, as-call-members, as-component, as-indexing, as-literal, as-parenthesized, as-pathed-name, as-plain, as-plain-name, as-truth, as-type, as-unary, view-literal}
+use Rattle.wesl_json_words.proofs.Expressions.{as-argued, as-binary, as-call, as-call-members, as-component, as-indexing, as-literal, as-parenthesized, as-pathed-name, as-plain, as-plain-name, as-truth, as-type, as-unary}
+use Rattle.wesl_tree_syntax.proofs.Shapes.{view-literal}
 use Rattle.wesl_json_words.proofs.PlacedShort.{placed-expression}
 use Rattle.wesl_tree_base.specs.declared.span.Span.{Span}
 use Rattle.wesl_tree_names.specs.Path.{Text, path_view}

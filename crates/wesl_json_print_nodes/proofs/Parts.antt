@@ -17,6 +17,7 @@ use Rattle.wesl_tree_base.specs.declared.span.Span.{Span}
 use Rattle.wesl_tree_names.specs.Path.{Text}
 use Rattle.wesl_tree_syntax.specs.Tree.{Kind, Tree}
 use Rattle.wesl_tree_syntax.specs.View.{optional}
+use Rattle.wesl_tree_base.proofs.Truth.{and_left, and_right}
 
 -- a member: its key, whether it is left out, and its value
 pub data Part : Type 0 where
@@ -59,14 +60,6 @@ are_apart (part k b d ∷ ps) = has_place k (arranged ps) && are_apart ps
 abbrev filled : List Part → Members
 filled [] = no_members
 filled (part k b d ∷ qs) = if b then filled qs else member k d (filled qs)
-
-and_left : (a b : Bool) → (a && b) ≡ true → a ≡ true
-and_left true b h = refl
-and_left false b h = h
-
-and_right : (a b : Bool) → (a && b) ≡ true → b ≡ true
-and_right true b h = h
-and_right false b h = absurd (true≢false (sym h))
 
 put_below : (k : Text) (d : Data) (qs : List Part) → is_below k qs ≡ true → put k d (filled qs) ≡ member k d (filled qs)
 put_below k d [] h = refl

@@ -1,4 +1,3 @@
-pub mod Depths
 pub mod Places
 pub mod Rows
 pub mod Spellings

@@ -15,7 +15,7 @@ use Rattle.wesl_json_form.specs.Units.{NumberedFrom}
 use Rattle.wesl_json_form.specs.Nodes.{whole_form, nodes_of}
 use Rattle.wesl_json_read.specs.Forms.{HasWord}
 use Rattle.wesl_json_read.specs.Numbers.{Begins, IsNumbered, IsReadAs, AreReadAs, ReadsForm, ReadsMember, ReadsOptional, ReadsList, ReadsRow, ReadsPlain}
-use Rattle.wesl_json_read.proofs.Depths.{get-depth}
+use Rattle.wesl_json_form.proofs.Depths.{get-depth}
 use Rattle.wesl_json_read.proofs.Rows.{IsPlain, plain-kind, over, none-read}
 use Rattle.wesl_json_read.proofs.Lists.{one-up}
 

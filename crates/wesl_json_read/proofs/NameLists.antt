@@ -21,7 +21,7 @@ use Rattle.wesl_json_read.specs.Texts.{NotesText}
 use Rattle.wesl_json_read.specs.declared.leaves.TextKind.TheVariants as kinds
 use Rattle.wesl_json_read.specs.declared.reader.Reader.{Reader}
 use Rattle.wesl_json_read.proofs.Noting.{listed_value, next_item, part_of, voided, weaker}
-use Rattle.wesl_json_read.proofs.Depths.{item-at}
+use Rattle.wesl_json_form.proofs.Depths.{item-at}
 use Rattle.wesl_json_read.proofs.Places.{IfPlace-more, further, inside-under, memory}
 use Rattle.wesl_json_read.proofs.Rows.{none-read, over, plain-texts}
 use Rattle.wesl_json_read.proofs.Steps.{leaf-reads, many-there}

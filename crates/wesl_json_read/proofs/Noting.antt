@@ -21,7 +21,7 @@ use Rattle.wesl_json_read.specs.Faults.{IsAtRoot, IsInside, IsUnderPart, Locates
 use Rattle.wesl_json_read.specs.Forms.{HasWord, ReadsWorded, worded_node, worded_row}
 use Rattle.wesl_json_read.specs.Numbers.{AreReadAs, IsReadAs, Reads, ReadsMany, ReadsMay, ReadsNeeded, ReadsRows}
 use Rattle.wesl_json_read.specs.Parts.{IsMemoryOr}
-use Rattle.wesl_json_read.proofs.Depths.{array-depth, item-at, item-depth}
+use Rattle.wesl_json_form.proofs.Depths.{array-depth, item-at, item-depth}
 use Rattle.wesl_json_read.proofs.Lists.{items-none, items-turn, items-whole, items_read}
 use Rattle.wesl_json_read.proofs.Places.{IfPlace-more, further, inside-under, item-under, look_field, member-inside, member-lacks, memory, root, row-inside, row-keys, row-member}
 use Rattle.wesl_json_read.proofs.Rows.{IsPlain, plain-kind, plain-truth, row-given}
@@ -33,16 +33,13 @@ use Rattle.wesl_json_read.specs.Noted.{IsList, IsThere, IsTold, IsNoList, IsTold
 use Rattle.wesl_json_read.specs.NotedNodes.{NotesType}
 use Rattle.wesl_json_read.specs.declared.reader.Fault.{Fault}
 use Rattle.wesl_json_read.specs.declared.reader.Reader.{Reader}
+use Rattle.wesl_tree_base.proofs.Options.{cleared}
 
 -- ---- the first fault of two
 
 later : {A : Type 0} (o r : Option A) (P : A → Type 0) → IfSome o P → (o ≡ None → IfSome r P) → ForSome o (λ x. r ≡ Some x) → IfSome r P
 later None r P here next kept = next refl
 later (Some x) r P here next kept = subst (λ y. IfSome y P) (sym (kept x refl)) here
-
-pub cleared : {A : Type 0} (o r : Option A) → ForSome o (λ x. r ≡ Some x) → r ≡ None → o ≡ None
-cleared None r kept h = refl
-cleared (Some x) r kept h = cc (kept x refl)
 
 untold : {A : Type 0} (R : A → A → Type 0) (o r : Option A) → ForSome o (λ x. IsSomeAnd r (R x)) → r ≡ None → o ≡ None
 untold R None r some h = refl

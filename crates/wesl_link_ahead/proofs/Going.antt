@@ -1,6 +1,5 @@
 -- What each step keeps, and what more modules keep.
-use Rattle.std.proofs.Common.{◌≡◌, ◌⊎◌, inl, inr, ℕ, List, [], ◌∷◌, slice_get, Some, Contains, subst, sym, refl, ap, ◌∙◌}
-use Rattle.std.proofs.lemmas.List.Elements.{Contains-push_cases}
+use Rattle.std.proofs.Common.{◌≡◌, inl, inr, ℕ, List, [], ◌∷◌, slice_get, Some, Contains, subst, sym, refl, ap, ◌∙◌}
 use Rattle.wesl_link_symbols.specs.declared.ids.PathId.{PathId}
 use Rattle.wesl_tree_base.specs.declared.ids.NameId.{NameId}
 use Rattle.wesl_link_symbols.specs.declared.symbols.Answer.TheVariants.{Declared, Next}
@@ -24,12 +23,9 @@ use Rattle.wesl_link_reach.proofs.Growth.{entered_more, followed_more, reached_m
 use Rattle.wesl_link_reach.proofs.Treading.{same_symbol}
 use Rattle.wesl_link_ahead.specs.declared.ahead.Ahead.{Ahead}
 use Rattle.wesl_link_ahead.specs.Ahead.{Comes, IsAhead, IsAsked}
+use Rattle.wesl_link_symbols.proofs.Putting.{puts_cases}
 
 -- ---- keys
-
-pub puts_cases : {K : Type 0} (old new : List K) (k x : K) → PutsKey old k new → Contains new x → Contains old x ⊎ (k ≡ x)
-puts_cases {K} old new k x (inl (there, e)) h = inl (subst (λ (ks : List K). Contains ks x) e h)
-puts_cases {K} old new k x (inr (fresh, e)) h = Contains-push_cases old k x (subst (λ (ks : List K). Contains ks x) e h)
 
 pub puts_keep : {K : Type 0} (old new : List K) (k x : K) → PutsKey old k new → Contains old x → Contains new x
 puts_keep old new k x put h = (within_on old new (puts_on old new k put)).held x h

@@ -11,12 +11,10 @@ use Rattle.wesl_link_assembly.specs.Views.{denotation_view}
 use Rattle.wesl_link_assembly.specs.declared.denotation.Denotation.{Denotation}
 use Rattle.wesl_link_assembly.specs.declared.denotation.Denotation.TheVariants as made
 use Rattle.wesl_link_assembly.specs.contracts.denotation.DenotationPartialEq.TheImpl as equality
+use Rattle.wesl_tree_base.proofs.Deciding.{along}
 
 abbrev pub denotation_eq : Denotation → Denotation → Bool
 denotation_eq = (equality.ghosts).eq
-
-along : {P Q : Type 0} {r : Bool} → Decides r P → (P → Q) → (Q → P) → Decides r Q
-along d f g = (λ e. f (d.0 e), λ q. d.1 (g q))
 
 same_path : (p q : PathId) → p.0 ≡ q.0 → p ≡ q
 same_path p q e = ap (λ (n : ℕ). record { 0 = n }) e

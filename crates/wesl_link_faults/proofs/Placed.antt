@@ -1,5 +1,5 @@
 -- What each step of the loading keeps.
-use Rattle.std.proofs.Common.{◌≡◌, ◌⊎◌, inl, inr, ℕ, ◌<◌, ◌≤◌, ◌+◌, false, List, [], ◌∷◌, ◌++◌, length, length-append, map, slice_get, Some, Contains, arith, subst, sym, refl, ap, ◌∙◌}
+use Rattle.std.proofs.Common.{◌≡◌, ◌⊎◌, inl, inr, ℕ, ◌<◌, ◌≤◌, ◌+◌, false, List, [], ◌∷◌, ◌++◌, length, length-append, slice_get, Some, Contains, arith, subst, sym, refl, ap, ◌∙◌}
 use Rattle.std.proofs.lemmas.List.Elements.{Contains-push, Contains-push_cases}
 use Rattle.wesl_link_symbols.specs.declared.ids.PathId.{PathId}
 use Rattle.wesl_tree_base.specs.declared.ids.NameId.{NameId}
@@ -26,6 +26,7 @@ use Rattle.wesl_link_flaws.specs.Flaws.{IsBare}
 use Rattle.wesl_link_faults.specs.Loading.{AreEntered, HasPlace, IsLoaded, IsNumbered, Moves, PutsAbsent, PutsTable, asked_in, tables_in, task_wanted}
 use Rattle.wesl_link_faults.specs.Opened.{HandsRoomy, IsAbsent}
 use Rattle.wesl_link_flaws.proofs.Searching.{puts_cases, puts_keep}
+use Rattle.std.proofs.lemmas.List.{map-append as map_append}
 
 -- ---- what may be asked for
 
@@ -43,10 +44,6 @@ module _ {P N : Type 0} (w : List (Table P N)) (task : Task P N) (ready : P → 
   entered_ready p (by_import q _ t i eager h at held e) = inr (subst ready e ((asks t at.0).imports i held))
 
 -- ---- lists
-
-map_append : {X Y : Type 0} (h : X → Y) (xs ys : List X) → map h (xs ++ ys) ≡ map h xs ++ map h ys
-map_append h [] ys = refl
-map_append {X} {Y} h (x ∷ xs) ys = ap (λ (zs : List Y). h x ∷ zs) (map_append h xs ys)
 
 put_longer : {K : Type 0} (old new : List K) (k : K) → (Contains old k → ⊥) → PutsKey old k new → length new ≡ length old + 1
 put_longer old new k fresh (inl (there, e)) = absurd (fresh there)

@@ -1,7 +1,6 @@
 -- Two imports that are alone and there at once have one target.
-use Rattle.std.proofs.Common.{◌≡◌, ◌⊎◌, inl, inr, ℕ, ◌<◌, Bool, true, false, ◌&&◌, ◌||◌, Some, List, [], ◌∷◌, length, slice_get, subst, sym, refl, ap, ◌∙◌}
+use Rattle.std.proofs.Common.{◌≡◌, ◌⊎◌, inl, inr, ℕ, ◌<◌, Some, length, slice_get, subst, sym, ◌∙◌}
 use Rattle.wesl_cond_choices.specs.declared.place.Place.{Place}
-use Rattle.wesl_cond_choices.specs.Places.{keeps, together}
 use Rattle.wesl_link_symbols.specs.Index.{Binds, IsLast}
 use Rattle.wesl_link_symbols.specs.declared.symbols.Import.{Import}
 use Rattle.wesl_link_symbols.specs.Tables.{Table}
@@ -10,17 +9,7 @@ use Rattle.wesl_link_symbols.proofs.Lists.{one_at}
 use Rattle.wesl_link_reach.proofs.Lists.{order}
 use Rattle.wesl_link_reach.specs.Faults.{Meet}
 use Rattle.wesl_link_reach.specs.Clashing.{IsLikeLast, MeetsNoOther}
-
-and_back : (a b : Bool) → (a && b) ≡ (b && a)
-and_back true true = refl
-and_back true false = refl
-and_back false true = refl
-and_back false false = refl
-
-together_back : (alive : List (List Place)) (a b : Place) → together alive a b ≡ together alive b a
-together_back [] a b = refl
-together_back (kept ∷ alive) a b =
-    ap (λ (x : Bool). x || together alive a b) (and_back (keeps kept a) (keeps kept b)) ∙ ap (λ (x : Bool). (keeps kept b && keeps kept a) || x) (together_back alive a b)
+use Rattle.wesl_link_reach.proofs.Clashing.{together_back}
 
 module _ {P N : Type 0} (t : Table P N) where
   meet_back : (a b : Place) → Meet t a b → Meet t b a

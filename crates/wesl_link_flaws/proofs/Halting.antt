@@ -1,5 +1,5 @@
 -- A look-up ends one way at most.
-use Rattle.std.proofs.Common.{◌≡◌, ◌⊎◌, inl, inr, ℕ, ◌<◌, ◌≤◌, suc, zero, List, ◌∷◌, length, Option, Some, None, Contains, arith, subst, sym, refl, ap, ◌∙◌}
+use Rattle.std.proofs.Common.{◌≡◌, ◌⊎◌, inl, inr, ◌<◌, List, ◌∷◌, length, Option, Some, None, Contains, arith, subst, sym, refl, ap, ◌∙◌}
 use Rattle.wesl_link_symbols.specs.declared.symbols.Answer.{Answer}
 use Rattle.wesl_link_symbols.specs.declared.symbols.Answer.TheVariants.{Declared, Next, Missing, Private, Ambiguous}
 use Rattle.wesl_link_symbols.specs.declared.symbols.LookUp.{LookUp}
@@ -18,18 +18,13 @@ use Rattle.wesl_link_flaws.specs.declared.told.Flaw.TheVariants.{Clash, NoModule
 use Rattle.wesl_link_flaws.specs.declared.told.End.{End}
 use Rattle.wesl_link_flaws.specs.declared.told.End.TheVariants.{Found, Flawed}
 use Rattle.wesl_link_flaws.specs.Flaws.{IsBare, Halts, EndsAs}
+use Rattle.std.proofs.Math.Nat.{eq-or-lt_of_le}
 
 -- how a walk stands: its question was met, no module is asked, or one answers
 data State (P N : Type 0) : Type 0 where
   again : State P N
   bare : State P N
   says : Answer P N → State P N
-
-split : (x y : ℕ) → x ≤ y → (x ≡ y) ⊎ (x < y)
-split zero zero e = inl refl
-split zero (suc y) e = inr (omega arith)
-split (suc x) zero e = absurd (omega arith)
-split (suc x) (suc y) e = elim (split x y (omega arith)) [ inl f ↦ inl (ap suc f) | inr f ↦ inr (omega arith) ]
 
 module _ {P N : Type 0} where
   -- how the look-up ends that stands so
@@ -68,7 +63,7 @@ module _ {P N : Type 0} (w : List (Table P N)) (clear : IsClear w) where
 
   goes_through : (l : LookUp P N) (m n : List (LookUp P N)) (a b : LookUp P N) → Walk w l m a → Walk w l n b → length m < length n → Goes m a
   goes_through l m n a b r (begin _ f) k = absurd (omega arith)
-  goes_through l m n a b r (step n2 b2 _ s new h) k = by_case (split (length m) (length n2) (omega arith)) (goes_through l m n2 a b2 r s)
+  goes_through l m n a b r (step n2 b2 _ s new h) k = by_case (eq-or-lt_of_le {n = length m} {m = length n2} (omega arith)) (goes_through l m n2 a b2 r s)
     where
       by_case : (length m ≡ length n2) ⊎ (length m < length n2) → (length m < length n2 → Goes m a) → Goes m a
       by_case (inl e) rest =
@@ -79,7 +74,7 @@ module _ {P N : Type 0} (w : List (Table P N)) (clear : IsClear w) where
   -- a shorter walk stands where the longer came by
   came_by : (l : LookUp P N) (m n : List (LookUp P N)) (a b : LookUp P N) → Walk w l m a → Walk w l n b → length n < length m → Contains m b
   came_by l m n a b (begin _ e) s k = absurd (omega arith)
-  came_by l m n a b (step m2 a2 _ r new h) s k = by_case (split (length n) (length m2) (omega arith)) (came_by l m2 n a2 b r s)
+  came_by l m n a b (step m2 a2 _ r new h) s k = by_case (eq-or-lt_of_le {n = length n} {m = length m2} (omega arith)) (came_by l m2 n a2 b r s)
     where
       by_case : (length n ≡ length m2) ⊎ (length n < length m2) → (length n < length m2 → Contains m2 b) → Contains (a2 ∷ m2) b
       by_case (inl e) rest =

@@ -21,7 +21,8 @@ use Rattle.wesl_link_flaws.specs.declared.told.Flaw.TheVariants.{Clash, NoModule
 use Rattle.wesl_link_flaws.specs.declared.told.End.{End}
 use Rattle.wesl_link_flaws.specs.declared.told.Told.{Told}
 use Rattle.wesl_link_flaws.specs.declared.told.End.TheVariants.{Found, Flawed}
-pub use Rattle.wesl_link_ahead.proofs.Going.{puts_cases, puts_keep}
+pub use Rattle.wesl_link_ahead.proofs.Going.{puts_keep}
+pub use Rattle.wesl_link_symbols.proofs.Putting.{puts_cases}
 use Rattle.wesl_link_flaws.specs.declared.keys.Keys.{Keys}
 use Rattle.wesl_link_flaws.specs.declared.given.Given.{Given}
 use Rattle.wesl_link_flaws.specs.declared.search.Search.{Search}

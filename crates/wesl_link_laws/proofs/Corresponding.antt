@@ -8,7 +8,7 @@ use Rattle.wesl_scope_occurrences.specs.Occurrences.{Block, Standing, module_nam
 use Rattle.wesl_scope_meanings.specs.Scopes.{is_visible, binds}
 use Rattle.wesl_link_laws.proofs.Aligned.{SameBlock, SamePlace, SameStanding}
 use Rattle.wesl_link_laws.proofs.Shaped.{Pathless}
-use Rattle.wesl_scope_open.proofs.Forests.{and_left, and_right}
+use Rattle.wesl_tree_base.proofs.Truth.{and_right, and_left}
 
 -- what binding a name says
 pub bound_so : (b : Block) (n : Text) (p : ℕ) (o : Occurrence Text) → binds b n p o ≡ true → (is_visible p o.role ≡ true) × (o.name ≡ n) × (o.block ≡ b)

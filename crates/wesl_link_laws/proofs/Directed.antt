@@ -12,7 +12,8 @@ use Rattle.wesl_link_engine.specs.Worlds.{Module}
 use Rattle.wesl_link_engine.specs.Linked.{directives_in}
 use Rattle.wesl_link_laws.proofs.Aligned.{SameStanding, SameOccurrence, aligned}
 use Rattle.wesl_link_laws.proofs.Shaped.{is_typed, is_type_shape, type_of_label, Pathless, alike_without}
-use Rattle.wesl_link_laws.proofs.Grammar.{Every, every_append, sober_typed}
+use Rattle.wesl_link_laws.proofs.Grammar.{sober_typed}
+use Rattle.wesl_scope_open.proofs.Runs.{every_append, Every}
 use Rattle.wesl_link_laws.proofs.Wordy.{Directives, no_directive, one_directive, IsWord, directives_words}
 use Rattle.wesl_link_laws.proofs.Ranges.{every_held}
 use Rattle.wesl_link_laws.proofs.Modules.{module_node, IsOutside}

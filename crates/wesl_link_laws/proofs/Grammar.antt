@@ -1,5 +1,5 @@
 -- Trees as the grammar has them, and where names are declared in them.
-use Rattle.std.proofs.Common.{◌≡◌, ℕ, suc, ◌+◌, Bool, true, false, not, ◌||◌, ◌&&◌, List, [], ◌∷◌, ◌++◌, Option, Some, None, refl, sym, subst}
+use Rattle.std.proofs.Common.{◌≡◌, ℕ, suc, ◌+◌, Bool, true, false, not, ◌||◌, ◌&&◌, List, [], ◌∷◌, Option, Some, None, refl, sym, subst}
 use Rattle.std.specs.Prelude.{if◌then◌else◌}
 use Rattle.wesl_tree_names.specs.Path.{Path}
 use Rattle.wesl_tree_syntax.specs.Tree.{LabelOf, ForestOf, end, tree, kind, at, ident, binder, reference as reference_role, word as word_role, declaration_node, function, parameters, parameter as parameter_kind, compound, statements, declaration as declaration_kind}
@@ -7,8 +7,9 @@ use Rattle.wesl_tree_syntax.specs.Nodes.{is_type}
 use Rattle.wesl_scope_occurrences.specs.Occurrences.{Standing, module_name, parameter, local, reference, word, Block, Occurrence, Shape, of_function, of_parameter, of_body, of_holder, of_loop, of_continuing, of_for, of_words, of_custom, of_type, of_value, of_globals, of_other, opens, Surroundings, Declares, globally, a_parameter, a_value, Node, declares_in, declared, referring, node_by, first_or, others_of, numbered, here_in, after_field, count, blocks_in, blocks_at, occurrences_from}
 use Rattle.wesl_link_laws.proofs.Alike.{is_ident, shape_in, occurrences_unfold}
 use Rattle.wesl_link_laws.proofs.Shaped.{is_typed_at, is_typed, Seen, an_ident, no_ident, seen}
-use Rattle.wesl_mangle_forms.proofs.Cuts.{not-true}
-use Rattle.wesl_scope_open.proofs.Forests.{and_left, and_right}
+use Rattle.wesl_tree_base.proofs.Truth.{and_right, and_left}
+use Rattle.std.proofs.lemmas.Bool.{not-true}
+use Rattle.wesl_scope_open.proofs.Runs.{Every, every_append, every_so}
 
 abbrev pub is_name : {I : Type 0} → LabelOf I → Bool
 is_name (ident binder x) = true
@@ -92,18 +93,6 @@ well_as P parameter x b h = h
 well_as P (local e) x b h = h
 well_as P (reference p) x b h = tt
 well_as P word x b h = tt
-
-abbrev pub Every : {X : Type 0} → (X → Type 0) → List X → Type 0
-Every P [] = Unit {0}
-Every P (x ∷ xs) = P x × Every P xs
-
-pub every_append : {X : Type 0} (P : X → Type 0) (xs ys : List X) → Every P xs → Every P ys → Every P (xs ++ ys)
-every_append P [] ys h k = k
-every_append P (x ∷ xs) ys h k = (h.0, every_append P xs ys h.1 k)
-
-every_so : {X : Type 0} (P Q : X → Type 0) → ((x : X) → P x → Q x) → (xs : List X) → Every P xs → Every Q xs
-every_so P Q f [] h = tt
-every_so P Q f (x ∷ xs) h = (f x h.0, every_so P Q f xs h.1)
 
 abbrev pub Well : {I : Type 0} → Occurrence I → Type 0
 Well o = StandsWell o.role o.block

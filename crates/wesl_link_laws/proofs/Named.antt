@@ -10,7 +10,8 @@ use Rattle.wesl_link_tables.specs.Imports.{below}
 use Rattle.wesl_link_tables.specs.Tables.{bound_name, or_later, declared_name, name_of}
 use Rattle.wesl_link_laws.proofs.Alike.{is_ident, shape_in, occurrences_unfold}
 use Rattle.wesl_link_laws.proofs.Shaped.{Seen, an_ident, no_ident, seen}
-use Rattle.wesl_link_laws.proofs.Grammar.{is_name, nameless, once_named, Every, StandsAs, WellAs, OuterHere, OuterNode, outer_here, outer_after, simple_node, Globals, no_more, a_function, another, AreSoNamed, FirstSo, first_alone, not_named, nameless_so, function_once, globals_as}
+use Rattle.wesl_link_laws.proofs.Grammar.{is_name, nameless, once_named, StandsAs, WellAs, OuterHere, OuterNode, outer_here, outer_after, simple_node, Globals, no_more, a_function, another, AreSoNamed, FirstSo, first_alone, not_named, nameless_so, function_once, globals_as}
+use Rattle.wesl_scope_open.proofs.Runs.{Every}
 use Rattle.wesl_link_laws.proofs.Modules.{IsOutside}
 use Rattle.wesl_link_laws.proofs.Parts.{part}
 use Rattle.wesl_link_laws.proofs.Ranges.{every_held}

@@ -7,7 +7,7 @@ use Rattle.wesl_scope_occurrences.specs.Occurrences.{Block, Occurrence, Node, op
 use Rattle.wesl_scope_occurrences.specs.Pieces.{size, cut}
 use Rattle.wesl_link_laws.proofs.Alike.{is_ident, shape_in, count_unfolds, occurrences_unfold}
 use Rattle.wesl_link_laws.proofs.Shaped.{Seen, an_ident, no_ident, seen}
-use Rattle.wesl_link_laws.proofs.Grammar.{Every}
+use Rattle.wesl_scope_open.proofs.Runs.{Every}
 
 abbrev pub joined : {X : Type 0} → List (List X) → List X
 joined [] = []

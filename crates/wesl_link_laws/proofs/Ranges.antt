@@ -7,7 +7,7 @@ use Rattle.wesl_scope_occurrences.specs.Occurrences.{Block, Occurrence, Surround
 use Rattle.wesl_link_laws.proofs.Alike.{Pairs, blocks_unfold, Alike}
 use Rattle.wesl_link_laws.proofs.Aligned.{SameBlock, SameHere, SameNode, SameOccurrence, aligned}
 use Rattle.wesl_link_laws.proofs.Shaped.{alike_shape}
-use Rattle.wesl_link_laws.proofs.Grammar.{Every}
+use Rattle.wesl_scope_open.proofs.Runs.{Every}
 use Rattle.wesl_link_laws.proofs.Parts.{joined, part, parts, blocks_of, AreNodes, parts_joined}
 
 -- each step of the way is one of the `n` numbers from `first` on

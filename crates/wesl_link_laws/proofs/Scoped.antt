@@ -8,7 +8,7 @@ use Rattle.wesl_tree_names.specs.Path.{Text}
 use Rattle.wesl_scope_occurrences.specs.Occurrences.{Block, Occurrence}
 use Rattle.wesl_scope_meanings.specs.Scopes.{is_visible, binds, binder_of}
 use Rattle.wesl_link_symbols.proofs.Lists.{contains_first, contains_later}
-use Rattle.wesl_scope_open.proofs.Forests.{and_left, and_right}
+use Rattle.wesl_tree_base.proofs.Truth.{and_right, and_left}
 
 -- the first that passes a test is one of the list, and passes it
 module _ {X : Type 0} (test : X → Bool) where

@@ -9,10 +9,8 @@ use Rattle.wesl_link_assembly.specs.Pathless.{without_path, has_words, without_p
 use Rattle.wesl_link_laws.proofs.Alike.{is_ident, shape_in, words_in, Alike, none, identifier, a_node, hollow}
 use Rattle.std.proofs.lemmas.Bool.{or_left}
 use Rattle.wesl_link_assembly.proofs.Renumbered.{shape_of}
-use Rattle.wesl_scope_open.proofs.Forests.{and_left, and_right}
-
-abbrev pub bare : {I : Type 0} → LabelOf I → LabelOf (Unit {0})
-bare = respell_label (λ i. tt)
+use Rattle.wesl_tree_base.proofs.Truth.{and_right, and_left}
+use Rattle.wesl_tree_syntax.proofs.Forests.{bare}
 
 abbrev pub Bared : Type 0
 Bared = LabelOf (Unit {0})

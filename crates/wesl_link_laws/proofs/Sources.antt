@@ -14,7 +14,8 @@ use Rattle.wesl_link_engine.specs.Worlds.{Module, table}
 use Rattle.wesl_link_engine.specs.Linked.{Placed, placed, IsHeld, AreHeldOf, Selects, Joins}
 use Rattle.wesl_link_laws.proofs.Alike.{is_ident}
 use Rattle.wesl_link_laws.proofs.Shaped.{is_typed_at, is_typed}
-use Rattle.wesl_link_laws.proofs.Grammar.{Globals, no_more, a_function, another, globals_typed, Every}
+use Rattle.wesl_link_laws.proofs.Grammar.{Globals, no_more, a_function, another, globals_typed}
+use Rattle.wesl_scope_open.proofs.Runs.{Every}
 use Rattle.wesl_link_laws.proofs.Parts.{part, parts, blocks_of}
 use Rattle.wesl_link_laws.proofs.Ranges.{StandsAt, first_tree, later_tree}
 use Rattle.wesl_link_laws.proofs.Modules.{globals_node, IsOutside, later_outside, globals_outside, globals_place, globals_number, global_parts, pieces_parts}

@@ -21,7 +21,7 @@ use Rattle.wesl_link_laws.proofs.Respelled.{IsGrammatical}
 use Rattle.wesl_link_laws.proofs.Sources.{Source, own_part, placed_of, row_of, has_row, AreSources}
 use Rattle.wesl_link_laws.proofs.Laid.{Related, has_source}
 use Rattle.wesl_link_laws.proofs.Meant.{IsLaidOut, stands_well, DenotesHere, denotes_here}
-use Rattle.wesl_scope_open.proofs.Forests.{and_left, and_right}
+use Rattle.wesl_tree_base.proofs.Truth.{and_right, and_left}
 
 -- what a binder of the module's block comes from is a name of the module
 role_so : (a a' b b' n : ℕ) (t v : Standing) (x y : Block) → SameStanding Pathless a a' b b' n t v → SameBlock Pathless a a' b b' n x y → StandsWell t x → is_binder v ≡ true → y ≡ [] → t ≡ module_name

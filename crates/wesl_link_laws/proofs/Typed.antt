@@ -28,21 +28,22 @@ use Rattle.wesl_tree_syntax.specs.declared.declaration.GlobalDeclaration.TheVari
 use Rattle.wesl_tree_syntax.specs.declared.statement.CaseSelector.{CaseSelector}
 use Rattle.wesl_tree_syntax.specs.declared.statement.CaseSelector.TheVariants as selectors
 use Rattle.wesl_tree_syntax.specs.declared.statement.BreakIfStatement.{BreakIfStatement}
-use Rattle.wesl_tree_syntax.specs.declared.statement.Statement.{Statement, map-Statement}
-use Rattle.wesl_tree_syntax.specs.declared.statement.CompoundStatement.{CompoundStatement, map-CompoundStatement}
-use Rattle.wesl_tree_syntax.specs.declared.statement.ContinuingStatement.{ContinuingStatement, map-ContinuingStatement}
-use Rattle.wesl_tree_syntax.specs.declared.statement.ElseClause.{ElseClause, map-ElseClause}
-use Rattle.wesl_tree_syntax.specs.declared.statement.ElseIfClause.{ElseIfClause, map-ElseIfClause}
-use Rattle.wesl_tree_syntax.specs.declared.statement.IfClause.{IfClause, map-IfClause}
-use Rattle.wesl_tree_syntax.specs.declared.statement.SwitchClause.{SwitchClause, map-SwitchClause}
+use Rattle.wesl_tree_syntax.specs.declared.statement.Statement.{Statement}
+use Rattle.wesl_tree_syntax.specs.declared.statement.CompoundStatement.{CompoundStatement}
+use Rattle.wesl_tree_syntax.specs.declared.statement.ContinuingStatement.{ContinuingStatement}
+use Rattle.wesl_tree_syntax.specs.declared.statement.ElseClause.{ElseClause}
+use Rattle.wesl_tree_syntax.specs.declared.statement.ElseIfClause.{ElseIfClause}
+use Rattle.wesl_tree_syntax.specs.declared.statement.IfClause.{IfClause}
+use Rattle.wesl_tree_syntax.specs.declared.statement.SwitchClause.{SwitchClause}
 use Rattle.wesl_tree_syntax.specs.declared.statement.Statement.TheOpen.{Statement-F, CompoundStatement-F, ContinuingStatement-F, ElseClause-F, ElseIfClause-F, IfClause-F, SwitchClause-F}
 use Rattle.wesl_tree_syntax.specs.declared.statement.Statement.TheFolds.{ind-CompoundStatement, fold-roll-Statement, fold-roll-CompoundStatement, fold-roll-ContinuingStatement, fold-roll-ElseClause, fold-roll-ElseIfClause, fold-roll-IfClause, fold-roll-SwitchClause}
 use Rattle.wesl_link_laws.proofs.Shaped.{is_typed_at}
 use Rattle.wesl_link_laws.proofs.Grammar.{is_name, is_parameter, is_declaration, sober, quiet, plainly, once_named, Parameters, no_parameter, one_parameter, FunctionFields, fields_of, Globals, no_more, a_function, another}
-use Rattle.std.proofs.lemmas.Bool.{or_right}
-use Rattle.wesl_mangle_forms.proofs.Cuts.{not-true}
-use Rattle.wesl_scope_open.proofs.Forests.{and_left, and_right}
-use Rattle.wesl_scope_open.proofs.Typed.{argument_seen, call_seen, clause_seen, compound_seen, continuing_seen, else_if_seen, else_seen, expression_seen, if_seen, statement_seen, type_seen}
+use Rattle.std.proofs.lemmas.Bool.{or_right, not-true}
+use Rattle.wesl_tree_base.proofs.Truth.{and_right, and_left}
+use Rattle.wesl_scope_open.proofs.Typed.{clause_seen, compound_seen, continuing_seen, else_if_seen, else_seen, if_seen, statement_seen}
+use Rattle.wesl_tree_syntax.proofs.Seen.{type_seen, argument_seen, call_seen, expression_seen}
+use Rattle.wesl_tree_syntax.proofs.Held.{statement_open, compound_open, continuing_open, else_open, else_if_open, if_open, clause_open}
 
 abbrev IsSober : Tree → Type 0
 IsSober t = (((not (is_name t.label) && not (is_parameter t.label)) && is_typed_at t.label t.children) && sober t.children) ≡ true
@@ -338,27 +339,6 @@ OfIfClause = (x : IfClause) × IsQuiet (if_view x)
 abbrev OfSwitchClause : Type 0
 OfSwitchClause = (x : SwitchClause) × IsQuiet (clause_view x)
 
-abbrev statement_open : Statement-F OfStatement OfCompoundStatement OfContinuingStatement OfElseClause OfElseIfClause OfIfClause OfSwitchClause → Statement-F Statement CompoundStatement ContinuingStatement ElseClause ElseIfClause IfClause SwitchClause
-statement_open y = map-Statement OfStatement OfCompoundStatement OfContinuingStatement OfElseClause OfElseIfClause OfIfClause OfSwitchClause Statement CompoundStatement ContinuingStatement ElseClause ElseIfClause IfClause SwitchClause (λ e. e.0) (λ e. e.0) (λ e. e.0) (λ e. e.0) (λ e. e.0) (λ e. e.0) (λ e. e.0) y
-
-abbrev compound_open : CompoundStatement-F OfStatement OfCompoundStatement OfContinuingStatement OfElseClause OfElseIfClause OfIfClause OfSwitchClause → CompoundStatement-F Statement CompoundStatement ContinuingStatement ElseClause ElseIfClause IfClause SwitchClause
-compound_open y = map-CompoundStatement OfStatement OfCompoundStatement OfContinuingStatement OfElseClause OfElseIfClause OfIfClause OfSwitchClause Statement CompoundStatement ContinuingStatement ElseClause ElseIfClause IfClause SwitchClause (λ e. e.0) (λ e. e.0) (λ e. e.0) (λ e. e.0) (λ e. e.0) (λ e. e.0) (λ e. e.0) y
-
-abbrev continuing_open : ContinuingStatement-F OfStatement OfCompoundStatement OfContinuingStatement OfElseClause OfElseIfClause OfIfClause OfSwitchClause → ContinuingStatement-F Statement CompoundStatement ContinuingStatement ElseClause ElseIfClause IfClause SwitchClause
-continuing_open y = map-ContinuingStatement OfStatement OfCompoundStatement OfContinuingStatement OfElseClause OfElseIfClause OfIfClause OfSwitchClause Statement CompoundStatement ContinuingStatement ElseClause ElseIfClause IfClause SwitchClause (λ e. e.0) (λ e. e.0) (λ e. e.0) (λ e. e.0) (λ e. e.0) (λ e. e.0) (λ e. e.0) y
-
-abbrev else_open : ElseClause-F OfStatement OfCompoundStatement OfContinuingStatement OfElseClause OfElseIfClause OfIfClause OfSwitchClause → ElseClause-F Statement CompoundStatement ContinuingStatement ElseClause ElseIfClause IfClause SwitchClause
-else_open y = map-ElseClause OfStatement OfCompoundStatement OfContinuingStatement OfElseClause OfElseIfClause OfIfClause OfSwitchClause Statement CompoundStatement ContinuingStatement ElseClause ElseIfClause IfClause SwitchClause (λ e. e.0) (λ e. e.0) (λ e. e.0) (λ e. e.0) (λ e. e.0) (λ e. e.0) (λ e. e.0) y
-
-abbrev else_if_open : ElseIfClause-F OfStatement OfCompoundStatement OfContinuingStatement OfElseClause OfElseIfClause OfIfClause OfSwitchClause → ElseIfClause-F Statement CompoundStatement ContinuingStatement ElseClause ElseIfClause IfClause SwitchClause
-else_if_open y = map-ElseIfClause OfStatement OfCompoundStatement OfContinuingStatement OfElseClause OfElseIfClause OfIfClause OfSwitchClause Statement CompoundStatement ContinuingStatement ElseClause ElseIfClause IfClause SwitchClause (λ e. e.0) (λ e. e.0) (λ e. e.0) (λ e. e.0) (λ e. e.0) (λ e. e.0) (λ e. e.0) y
-
-abbrev if_open : IfClause-F OfStatement OfCompoundStatement OfContinuingStatement OfElseClause OfElseIfClause OfIfClause OfSwitchClause → IfClause-F Statement CompoundStatement ContinuingStatement ElseClause ElseIfClause IfClause SwitchClause
-if_open y = map-IfClause OfStatement OfCompoundStatement OfContinuingStatement OfElseClause OfElseIfClause OfIfClause OfSwitchClause Statement CompoundStatement ContinuingStatement ElseClause ElseIfClause IfClause SwitchClause (λ e. e.0) (λ e. e.0) (λ e. e.0) (λ e. e.0) (λ e. e.0) (λ e. e.0) (λ e. e.0) y
-
-abbrev clause_open : SwitchClause-F OfStatement OfCompoundStatement OfContinuingStatement OfElseClause OfElseIfClause OfIfClause OfSwitchClause → SwitchClause-F Statement CompoundStatement ContinuingStatement ElseClause ElseIfClause IfClause SwitchClause
-clause_open y = map-SwitchClause OfStatement OfCompoundStatement OfContinuingStatement OfElseClause OfElseIfClause OfIfClause OfSwitchClause Statement CompoundStatement ContinuingStatement ElseClause ElseIfClause IfClause SwitchClause (λ e. e.0) (λ e. e.0) (λ e. e.0) (λ e. e.0) (λ e. e.0) (λ e. e.0) (λ e. e.0) y
-
 elifs_each : (xs : List OfElseIfClause) → quiet false (forest_of (map (λ t. t) (map else_if_view (map (λ a. a.0) xs)))) ≡ true
 elifs_each [] = refl
 elifs_each (x ∷ xs) = rw (x.1, elifs_each xs) refl
@@ -375,7 +355,7 @@ statements_each (x ∷ xs) = rw (x.node.1, statements_each xs) refl
 of_body : (b : OfCompoundStatement) → IsQuiet (compound_view b.0)
 of_body b = body_quiet (compound_view b.0) b.1
 
-statement_each : (y : Statement-F OfStatement OfCompoundStatement OfContinuingStatement OfElseClause OfElseIfClause OfIfClause OfSwitchClause) → IsQuiet (statement_seen (statement_open y))
+statement_each : (y : Statement-F OfStatement OfCompoundStatement OfContinuingStatement OfElseClause OfElseIfClause OfIfClause OfSwitchClause) → IsQuiet (statement_seen (statement_open IsQuiet IsBody y))
 statement_each Statement-F.Void = refl
 statement_each (Statement-F.Compound b) = rw (of_body b) refl
 statement_each (Statement-F.Assignment a o l r) = rw (attributes_quiet a.items, expression_quiet l.node, expression_quiet r.node) refl
@@ -399,22 +379,22 @@ statement_each (Statement-F.FunctionCall a c) = rw (attributes_quiet a.items, ca
 statement_each (Statement-F.ConstAssert c) = assert_quiet c
 statement_each (Statement-F.Declaration d) = declaration_quiet d
 
-compound_each : (y : CompoundStatement-F OfStatement OfCompoundStatement OfContinuingStatement OfElseClause OfElseIfClause OfIfClause OfSwitchClause) → IsBody (compound_seen (compound_open y))
+compound_each : (y : CompoundStatement-F OfStatement OfCompoundStatement OfContinuingStatement OfElseClause OfElseIfClause OfIfClause OfSwitchClause) → IsBody (compound_seen (compound_open IsQuiet IsBody y))
 compound_each y = record { attached_to = _; inside = _; same = refl; is_attached = attributes_sober y.attributes.items; is_quiet = statements_each y.statements.items }
 
-continuing_each : (y : ContinuingStatement-F OfStatement OfCompoundStatement OfContinuingStatement OfElseClause OfElseIfClause OfIfClause OfSwitchClause) → IsQuiet (continuing_seen (continuing_open y))
+continuing_each : (y : ContinuingStatement-F OfStatement OfCompoundStatement OfContinuingStatement OfElseClause OfElseIfClause OfIfClause OfSwitchClause) → IsQuiet (continuing_seen (continuing_open IsQuiet IsBody y))
 continuing_each y = rw (attributes_quiet y.attributes.items, of_body y.body, break_there y.break_if) refl
 
-else_each : (y : ElseClause-F OfStatement OfCompoundStatement OfContinuingStatement OfElseClause OfElseIfClause OfIfClause OfSwitchClause) → IsQuiet (else_seen (else_open y))
+else_each : (y : ElseClause-F OfStatement OfCompoundStatement OfContinuingStatement OfElseClause OfElseIfClause OfIfClause OfSwitchClause) → IsQuiet (else_seen (else_open IsQuiet IsBody y))
 else_each y = rw (attributes_quiet y.attributes.items, of_body y.body) refl
 
-else_if_each : (y : ElseIfClause-F OfStatement OfCompoundStatement OfContinuingStatement OfElseClause OfElseIfClause OfIfClause OfSwitchClause) → IsQuiet (else_if_seen (else_if_open y))
+else_if_each : (y : ElseIfClause-F OfStatement OfCompoundStatement OfContinuingStatement OfElseClause OfElseIfClause OfIfClause OfSwitchClause) → IsQuiet (else_if_seen (else_if_open IsQuiet IsBody y))
 else_if_each y = rw (attributes_quiet y.attributes.items, expression_quiet y.expression.node, of_body y.body) refl
 
-if_each : (y : IfClause-F OfStatement OfCompoundStatement OfContinuingStatement OfElseClause OfElseIfClause OfIfClause OfSwitchClause) → IsQuiet (if_seen (if_open y))
+if_each : (y : IfClause-F OfStatement OfCompoundStatement OfContinuingStatement OfElseClause OfElseIfClause OfIfClause OfSwitchClause) → IsQuiet (if_seen (if_open IsQuiet IsBody y))
 if_each y = rw (expression_quiet y.expression.node, of_body y.body) refl
 
-clause_each : (y : SwitchClause-F OfStatement OfCompoundStatement OfContinuingStatement OfElseClause OfElseIfClause OfIfClause OfSwitchClause) → IsQuiet (clause_seen (clause_open y))
+clause_each : (y : SwitchClause-F OfStatement OfCompoundStatement OfContinuingStatement OfElseClause OfElseIfClause OfIfClause OfSwitchClause) → IsQuiet (clause_seen (clause_open IsQuiet IsBody y))
 clause_each y = rw (attributes_quiet y.attributes.items, selectors_quiet y.case_selectors.items, of_body y.body) refl
 
 compound_body : (c : CompoundStatement) → IsBody (compound_view c)

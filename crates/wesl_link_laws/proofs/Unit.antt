@@ -11,7 +11,8 @@ use Rattle.wesl_link_assembly.specs.Pathless.{without_paths}
 use Rattle.wesl_link_assembly.proofs.Replaced.{replaced_twice}
 use Rattle.wesl_link_engine.specs.Linked.{Denotation, Placed, unit_of}
 use Rattle.wesl_link_laws.proofs.Alike.{is_ident, same_count}
-use Rattle.wesl_link_laws.proofs.Shaped.{bare, label_of, children_of, beside, Pathless, alike_without}
+use Rattle.wesl_link_laws.proofs.Shaped.{label_of, children_of, beside, Pathless, alike_without}
+use Rattle.wesl_tree_syntax.proofs.Forests.{bare}
 use Rattle.wesl_link_laws.proofs.Parts.{as_many, count_is}
 use Rattle.wesl_link_laws.proofs.Wordy.{Directives}
 use Rattle.wesl_link_laws.proofs.Modules.{module_node, IsModule, in_parts, imports_part, directives_part, globals_part, directives_place, directives_number}

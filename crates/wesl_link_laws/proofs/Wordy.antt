@@ -4,8 +4,9 @@ use Rattle.wesl_tree_syntax.specs.Tree.{Kind, LabelOf, ForestOf, end, tree, kind
 use Rattle.wesl_scope_occurrences.specs.Occurrences.{word, Block, Occurrence, Shape, of_function, of_parameter, of_body, of_holder, of_loop, of_continuing, of_for, of_words, of_custom, of_type, of_value, of_globals, of_other, shape_of, opens, Surroundings, Node, referring, node_by, first_or, others_of, numbered, here_in, after_field, count, blocks_in, blocks_at, occurrences_from}
 use Rattle.wesl_link_laws.proofs.Alike.{is_ident, shape_in, occurrences_unfold}
 use Rattle.wesl_link_laws.proofs.Shaped.{is_typed_at, Seen, an_ident, no_ident, seen}
-use Rattle.wesl_link_laws.proofs.Grammar.{is_name, is_parameter, sober, Every, every_append}
-use Rattle.wesl_scope_open.proofs.Forests.{and_left, and_right}
+use Rattle.wesl_link_laws.proofs.Grammar.{is_name, is_parameter, sober}
+use Rattle.wesl_scope_open.proofs.Runs.{every_append, Every}
+use Rattle.wesl_tree_base.proofs.Truth.{and_right, and_left}
 
 abbrev InWords : Surroundings Block → Type 0
 InWords s = s.words ≡ true

@@ -1,5 +1,5 @@
 -- How the binders of a name are told to clash.
-use Rattle.std.proofs.Common.{◌≡◌, ◌⊎◌, inl, inr, ℕ, ◌<◌, Bool, true, false, ◌&&◌, ◌||◌, Some, List, [], ◌∷◌, length, slice_get, slice_index_or, Contains, subst, sym, refl, ap, ◌∙◌}
+use Rattle.std.proofs.Common.{◌≡◌, ◌⊎◌, inl, inr, ℕ, ◌<◌, Bool, ◌&&◌, ◌||◌, Some, List, [], ◌∷◌, length, slice_get, slice_index_or, Contains, subst, sym, refl, ap, ◌∙◌}
 use Rattle.std.proofs.lemmas.Option.{slice_get-get_or}
 use Rattle.wesl_cond_choices.specs.declared.place.Place.{Place}
 use Rattle.wesl_cond_choices.specs.Places.{keeps, together}
@@ -15,14 +15,9 @@ use Rattle.wesl_cond_choices.specs.declared.place.Place.TheVariants.{Always}
 use Rattle.wesl_tree_base.specs.declared.ids.NameId.{NameId}
 use Rattle.wesl_link_symbols.specs.declared.ids.PathId.{PathId}
 use Rattle.wesl_link_symbols.specs.Searching.{SeesDeclaration, SeesNoOther, SeesOther}
+use Rattle.std.proofs.Math.Bool.{and_comm as and_back}
 
-and_back : (a b : Bool) → (a && b) ≡ (b && a)
-and_back true true = refl
-and_back true false = refl
-and_back false true = refl
-and_back false false = refl
-
-together_back : (alive : List (List Place)) (a b : Place) → together alive a b ≡ together alive b a
+pub together_back : (alive : List (List Place)) (a b : Place) → together alive a b ≡ together alive b a
 together_back [] a b = refl
 together_back (kept ∷ alive) a b =
     ap (λ (x : Bool). x || together alive a b) (and_back (keeps kept a) (keeps kept b)) ∙ ap (λ (x : Bool). (keeps kept b && keeps kept a) || x) (together_back alive a b)

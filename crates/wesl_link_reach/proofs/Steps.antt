@@ -1,5 +1,5 @@
 -- What each step of the loading keeps, and what its refusals mean.
-use Rattle.std.proofs.Common.{◌≡◌, ◌⊎◌, inl, inr, ℕ, ◌<◌, ◌≤◌, ◌+◌, true, List, [], ◌∷◌, ◌++◌, length, length-append, map, slice_get, Some, Contains, arith, subst, sym, refl, ap, ◌∙◌}
+use Rattle.std.proofs.Common.{◌≡◌, ◌⊎◌, inl, inr, ℕ, ◌<◌, ◌≤◌, ◌+◌, true, List, [], ◌∷◌, ◌++◌, length, length-append, slice_get, Some, Contains, arith, subst, sym, refl, ap, ◌∙◌}
 use Rattle.std.proofs.lemmas.List.Elements.{Contains-append_left, Contains-push, Contains-push_cases}
 use Rattle.wesl_link_symbols.specs.Keyed.{Puts, PutsKey}
 use Rattle.wesl_link_symbols.specs.declared.symbols.LookUp.{LookUp}
@@ -19,10 +19,7 @@ use Rattle.wesl_link_reach.proofs.Growth.{at_more, leads_more, entered_more, rea
 use Rattle.wesl_link_reach.specs.Trodden.{AreTrodden}
 use Rattle.wesl_link_reach.proofs.Growing.{within_itself, within_push, distinct_push, all_of}
 use Rattle.wesl_link_reach.proofs.Treading.{trodden_more}
-
-map_append : {X Y : Type 0} (h : X → Y) (xs ys : List X) → map h (xs ++ ys) ≡ map h xs ++ map h ys
-map_append h [] ys = refl
-map_append {X} {Y} h (x ∷ xs) ys = ap (λ (zs : List Y). h x ∷ zs) (map_append h xs ys)
+use Rattle.std.proofs.lemmas.List.{map-append as map_append}
 
 module _ {P N : Type 0} where
   table_of_path : (w : List (Table P N)) (p : P) → Contains (paths w) p → (t : Table P N) × IsAt w p t

@@ -1,5 +1,5 @@
 -- A look-up goes one way at most.
-use Rattle.std.proofs.Common.{◌≡◌, ◌⊎◌, inl, inr, ℕ, ◌<◌, ◌≤◌, suc, zero, List, ◌∷◌, length, arith, subst, sym, refl, ap, ◌∙◌}
+use Rattle.std.proofs.Common.{◌≡◌, ◌⊎◌, inl, inr, ◌<◌, List, ◌∷◌, length, arith, subst, sym, refl, ap, ◌∙◌}
 use Rattle.wesl_link_symbols.specs.declared.symbols.Answer.TheVariants.{Declared, Next, Missing, Private, Ambiguous}
 use Rattle.wesl_link_symbols.specs.declared.symbols.LookUp.{LookUp}
 use Rattle.wesl_link_symbols.specs.declared.symbols.Symbol.{Symbol}
@@ -11,12 +11,7 @@ use Rattle.wesl_link_reach.specs.World.Walk.{begin, step}
 use Rattle.wesl_link_reach.specs.Laws.{IsClear, LeadsToOne}
 use Rattle.wesl_link_symbols.proofs.Once.{once}
 use Rattle.wesl_link_reach.proofs.Lists.{order}
-
-split : (x y : ℕ) → x ≤ y → (x ≡ y) ⊎ (x < y)
-split zero zero e = inl refl
-split zero (suc y) e = inr (omega arith)
-split (suc x) zero e = absurd (omega arith)
-split (suc x) (suc y) e = elim (split x y (omega arith)) [ inl f ↦ inl (ap suc f) | inr f ↦ inr (omega arith) ]
+use Rattle.std.proofs.Math.Nat.{eq-or-lt_of_le}
 
 module _ {P N : Type 0} (w : List (Table P N)) (clear : IsClear w) where
   same_at : (p : P) (t u : Table P N) → IsAt w p t → IsAt w p u → u ≡ t
@@ -56,7 +51,7 @@ module _ {P N : Type 0} (w : List (Table P N)) (clear : IsClear w) where
   -- a longer walk goes through the end of a shorter one
   goes_through : (l : LookUp P N) (m n : List (LookUp P N)) (a b : LookUp P N) → Walk w l m a → Walk w l n b → length m < length n → Goes m a
   goes_through l m n a b r (begin _ f) k = absurd (omega arith)
-  goes_through l m n a b r (step n2 b2 _ s new h) k = by_case (split (length m) (length n2) (omega arith)) (goes_through l m n2 a b2 r s)
+  goes_through l m n a b r (step n2 b2 _ s new h) k = by_case (eq-or-lt_of_le {n = length m} {m = length n2} (omega arith)) (goes_through l m n2 a b2 r s)
     where
       by_case : (length m ≡ length n2) ⊎ (length m < length n2) → (length m < length n2 → Goes m a) → Goes m a
       by_case (inl e) rest =

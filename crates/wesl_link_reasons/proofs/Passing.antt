@@ -1,6 +1,6 @@
 -- What going through a look-up keeps.
-use Rattle.std.proofs.Common.{◌≡◌, ◌⊎◌, inl, inr, ℕ, List, [], ◌∷◌, slice_get, Option, Some, None, Contains, subst, sym, refl, ap, ◌∙◌}
-use Rattle.std.proofs.lemmas.List.Elements.{Contains-push_cases, Contains-append_left}
+use Rattle.std.proofs.Common.{◌≡◌, inl, inr, ℕ, List, [], ◌∷◌, slice_get, Option, Some, None, Contains, subst, sym, refl, ap, ◌∙◌}
+use Rattle.std.proofs.lemmas.List.Elements.{Contains-append_left}
 use Rattle.wesl_link_symbols.specs.declared.ids.PathId.{PathId}
 use Rattle.wesl_tree_base.specs.declared.ids.NameId.{NameId}
 use Rattle.wesl_link_symbols.specs.declared.symbols.Answer.{Answer}
@@ -25,12 +25,9 @@ use Rattle.wesl_link_reasons.specs.Found.{IsFound, IsGiven, StaysFound}
 use Rattle.wesl_link_reasons.specs.Searching.{IsAnswerAt, IsOnWay, IsThrough, AreThrough}
 use Rattle.wesl_link_reasons.proofs.Holding.{followed}
 use Rattle.wesl_link_reasons.proofs.Adding.{found_on}
+use Rattle.wesl_link_symbols.proofs.Putting.{puts_cases}
 
 -- ---- a list in which a key is put
-
-puts_cases : {K : Type 0} (old new : List K) (k x : K) → PutsKey old k new → Contains new x → Contains old x ⊎ (k ≡ x)
-puts_cases {K} old new k x (inl (there, e)) h = inl (subst (λ (ks : List K). Contains ks x) e h)
-puts_cases {K} old new k x (inr (fresh, e)) h = Contains-push_cases old k x (subst (λ (ks : List K). Contains ks x) e h)
 
 pub puts_keeps : {K : Type 0} (old new : List K) (k : K) → PutsKey old k new → (x : K) → Contains old x → Contains new x
 puts_keeps {K} old new k (inl (there, e)) x h = subst (λ (ks : List K). Contains ks x) (sym e) h

@@ -1,7 +1,8 @@
 -- Whether a chain of steps leads from one to another.
 use Rattle.std.proofs.Common.{◌≡◌, ◌⊎◌, inl, inr, List, [], ◌∷◌, Contains, subst, sym}
 use Rattle.wesl_link_symbols.proofs.Lists.{contains_nil, contains_cases}
-use Rattle.wesl_link_sound.proofs.Decidable.{IsDecidable, decided_by, both, either}
+use Rattle.wesl_link_sound.proofs.Decidable.{decided_by}
+use Rattle.wesl_link_symbols.proofs.Decidable.{either, both, IsDecidable}
 use Rattle.wesl_link_sound.proofs.Finite.{IsFinite}
 
 -- one step or more

@@ -3,7 +3,8 @@ use Rattle.std.proofs.Common.{◌≡◌, ◌⊎◌, inl, inr, ℕ, zero, suc, �
 use Rattle.std.proofs.lemmas.List.Elements.{Contains-append_left, Contains-append_right}
 use Rattle.wesl_link_symbols.proofs.Lists.{contains_nil, contains_first, contains_later, contains_cases}
 use Rattle.wesl_link_reach.proofs.Lists.{map_contains}
-use Rattle.wesl_link_sound.proofs.Decidable.{IsDecidable, decided_by, some_of}
+use Rattle.wesl_link_sound.proofs.Decidable.{decided_by}
+use Rattle.wesl_link_symbols.proofs.Decidable.{some_of, IsDecidable}
 
 -- all that have the property stand in a list
 abbrev pub IsFinite : {X : Type 0} → (X → Type 0) → Type 0

@@ -16,7 +16,8 @@ use Rattle.wesl_link_reach.specs.World.Walk.{begin, step}
 use Rattle.wesl_link_reach.specs.Faults.{AreDistinct}
 use Rattle.wesl_link_reach.specs.Faults.AreDistinct.{none as none_distinct, one_more as one_distinct}
 use Rattle.wesl_link_reach.proofs.Lists.{contains_map, map_contains, distinct_length, length_map}
-use Rattle.wesl_link_sound.proofs.Decidable.{IsDecidable, decided_by, both, negated, some_of, same_look_up}
+use Rattle.wesl_link_sound.proofs.Decidable.{decided_by, same_look_up}
+use Rattle.wesl_link_symbols.proofs.Decidable.{some_of, negated, both, IsDecidable}
 use Rattle.wesl_link_sound.proofs.Finite.{IsFinite, finite_list, finite_image, finite_each, some_finite, IsListOf, finite_lists}
 
 module _ {P N : Type 0} (w : List (Table P N)) where

@@ -12,7 +12,8 @@ use Rattle.wesl_link_tables.specs.Uses.{Use, declares, refers, unclear, local}
 use Rattle.wesl_link_tables.specs.Marks.{IsMark, AreMarked}
 use Rattle.wesl_link_tables.specs.declared.marks.Mark.{Mark}
 use Rattle.wesl_link_tables.specs.declared.marks.Mark.TheVariants as marks
-use Rattle.wesl_link_sound.proofs.Decidable.{IsDecidable, decided_by, both, some_of, same_bool, same_number, same_place, same_option}
+use Rattle.wesl_link_sound.proofs.Decidable.{decided_by}
+use Rattle.wesl_link_symbols.proofs.Decidable.{same_option, same_place, same_number, same_bool, some_of, both, IsDecidable}
 use Rattle.wesl_link_sound.proofs.Paths.{same_text, same_path}
 use Rattle.wesl_link_sound.proofs.Together.{together_decided}
 

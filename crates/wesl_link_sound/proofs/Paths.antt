@@ -2,7 +2,8 @@
 use Rattle.std.proofs.Common.{◌≡◌, inl, inr, ℕ, List, [], ◌∷◌, Contains, subst, refl, ap, ◌∙◌}
 use Rattle.wesl_tree_names.specs.Path.{Text, Path, Origin, absolute, relative, from_package}
 use Rattle.wesl_link_symbols.specs.Laws.{IsDecided}
-use Rattle.wesl_link_sound.proofs.Decidable.{IsDecidable, decided_by, both, some_of, same_number}
+use Rattle.wesl_link_sound.proofs.Decidable.{decided_by}
+use Rattle.wesl_link_symbols.proofs.Decidable.{same_number, some_of, both, IsDecidable}
 
 pub same_list : {X : Type 0} → IsDecided X → IsDecided (List X)
 same_list d [] [] = inl refl

@@ -12,7 +12,8 @@ use Rattle.wesl_link_reach.specs.World.{IsAt, Walk, WalksTo, LeadsTo, Task, IsKe
 use Rattle.wesl_link_reach.specs.World.Entered.{root, asked, imported}
 use Rattle.wesl_link_reach.specs.World.Reached.{led_to, declared}
 use Rattle.wesl_link_reach.specs.World.Followed.{kept, by_assert, by_symbol}
-use Rattle.wesl_link_sound.proofs.Decidable.{IsDecidable, decided_by, both, some_of, same_bool, same_option, same_look_up}
+use Rattle.wesl_link_sound.proofs.Decidable.{decided_by, same_look_up}
+use Rattle.wesl_link_symbols.proofs.Decidable.{same_option, same_bool, some_of, both, IsDecidable}
 use Rattle.wesl_link_sound.proofs.Finite.{IsFinite, finite_list, finite_one, finite_some, finite_or, finite_within, finite_image, finite_each, some_finite}
 use Rattle.wesl_link_sound.proofs.Chains.{Chain, along, chain_decided}
 use Rattle.wesl_link_sound.proofs.Chains.Chain.{one, more}

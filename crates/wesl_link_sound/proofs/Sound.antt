@@ -20,7 +20,8 @@ use Rattle.wesl_link_engine.specs.Tabled.{module_of, IsTabled}
 use Rattle.wesl_link_engine.specs.Keeping.{all_loaded, modules_in, IsCovered, IsLinkOf, IsSoundLink, task_in}
 use Rattle.wesl_link_engine.specs.declared.loaded.LoadedModule.{LoadedModule}
 use Rattle.wesl_link_engine.specs.declared.link.Link.{Link}
-use Rattle.wesl_link_sound.proofs.Decidable.{IsDecidable, decided_by, both, some_of, really, same_bool, same_number}
+use Rattle.wesl_link_sound.proofs.Decidable.{decided_by}
+use Rattle.wesl_link_symbols.proofs.Decidable.{same_number, same_bool, some_of, really, both, IsDecidable}
 use Rattle.wesl_link_sound.proofs.Paths.{same_text, same_path, contains_decided}
 use Rattle.wesl_link_sound.proofs.Leading.{same_symbol}
 use Rattle.wesl_link_sound.proofs.Reaching.{reached_decided}

@@ -6,7 +6,8 @@ use Rattle.wesl_cond_choices.specs.declared.place.Place.{Place}
 use Rattle.wesl_cond_choices.specs.declared.place.Place.TheVariants.{Always}
 use Rattle.wesl_cond_choices.specs.Places.{is_always, same_place, keeps, together}
 use Rattle.wesl_link_symbols.proofs.Lists.{contains_nil, contains_first, contains_later, contains_cases}
-use Rattle.wesl_link_sound.proofs.Decidable.{IsDecidable, decided_by, all_of, same_bool}
+use Rattle.wesl_link_sound.proofs.Decidable.{decided_by, all_of}
+use Rattle.wesl_link_symbols.proofs.Decidable.{same_bool, IsDecidable}
 use Rattle.std.proofs.lemmas.Bool.{and_parts}
 use Rattle.wesl_link_split.proofs.Targets.{any_there, place_is}
 

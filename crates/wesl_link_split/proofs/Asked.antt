@@ -19,7 +19,7 @@ use Rattle.wesl_link_split.proofs.Unsplit.{filter_in}
 abbrev Ours : Type 0
 Ours = Binder Path Text
 
-target_is : (b c : Ours) → split.same_target texts b c ≡ true → (b.path ≡ c.path) × (b.item ≡ c.item)
+pub target_is : (b c : Ours) → split.same_target texts b c ≡ true → (b.path ≡ c.path) × (b.item ≡ c.item)
 target_is b c e =
     let (path, item) = both_true (same_path b.path c.path) (bytes_eq b.item c.item) e in
     ((same_path-decides b.path c.path).0 path, (bytes_eq-Decides b.item c.item).0 item)

@@ -6,3 +6,5 @@ pub mod Whole
 pub mod Answering
 pub mod Runs
 pub mod Seeking
+pub mod Decidable
+pub mod Putting

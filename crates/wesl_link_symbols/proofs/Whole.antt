@@ -1,51 +1,18 @@
 -- Each look-up has an answer.
-use Rattle.std.proofs.Common.{◌≡◌, ◌⊎◌, inl, inr, ℕ, zero, suc, ◌<◌, ◌≤◌, Bool, true, false, Option, Some, None, List, [], ◌∷◌, Contains, arith, subst, sym, refl, ap, ◌∙◌}
+use Rattle.std.proofs.Common.{◌≡◌, ◌⊎◌, inl, inr, ℕ, zero, suc, ◌<◌, ◌≤◌, true, Some, arith, sym, refl, ap, ◌∙◌}
 use Rattle.wesl_cond_choices.specs.declared.place.Place.TheVariants as at
 use Rattle.wesl_link_symbols.specs.declared.symbols.Answer.TheVariants.{Declared, Next, Missing, Private, Ambiguous}
 use Rattle.wesl_cond_choices.specs.Places.{together}
 use Rattle.wesl_link_symbols.specs.Tables.{Place, Import, LookUp, Answer, Table}
 use Rattle.wesl_link_symbols.specs.Names.{SameTarget, IsOwn, Shows, Sees, DeclaresTo, IsOpenTo, IsHiddenFrom, IsAskedTo, asked_by, Answers}
 use Rattle.wesl_link_symbols.specs.Laws.{IsDecided, HasAnswers}
-use Rattle.wesl_link_symbols.proofs.Lists.{contains_nil, contains_later, contains_first, contains_cases}
-
-abbrev IsDecidable : Type 0 → Type 0
-IsDecidable A = A ⊎ (A → ⊥)
+use Rattle.wesl_link_symbols.proofs.Decidable.{IsDecidable, both, either, negated, really, some_of, same_bool, same_place, same_option}
 
 both_of_three : {A B C : Type 0} → IsDecidable A → IsDecidable B → IsDecidable C → IsDecidable (A × B × C)
 both_of_three (inl a) (inl b) (inl c) = inl (a, b, c)
 both_of_three (inl a) (inl b) (inr n) = inr (λ x. n x.2)
 both_of_three (inl a) (inr n) c = inr (λ x. n x.1)
 both_of_three (inr n) b c = inr (λ x. n x.0)
-
-both : {A B : Type 0} → IsDecidable A → IsDecidable B → IsDecidable (A × B)
-both (inl a) (inl b) = inl (a, b)
-both (inl a) (inr n) = inr (λ x. n x.1)
-both (inr n) b = inr (λ x. n x.0)
-
-either : {A B : Type 0} → IsDecidable A → IsDecidable B → IsDecidable (A ⊎ B)
-either (inl a) b = inl (inl a)
-either (inr n) (inl b) = inl (inr b)
-either (inr n) (inr m) = inr (λ x. elim x [ inl a ↦ n a | inr b ↦ m b ])
-
-negated : {A : Type 0} → IsDecidable A → IsDecidable (A → ⊥)
-negated (inl a) = inr (λ n. n a)
-negated (inr n) = inl n
-
-really : {A : Type 0} → IsDecidable A → ((A → ⊥) → ⊥) → A
-really (inl a) h = a
-really (inr n) h = absurd (h n)
-
-same_bool : (a b : Bool) → IsDecidable (a ≡ b)
-same_bool true true = inl refl
-same_bool true false = inr (λ e. cc)
-same_bool false true = inr (λ e. cc)
-same_bool false false = inl refl
-
-same_number : (x y : ℕ) → IsDecidable (x ≡ y)
-same_number zero zero = inl refl
-same_number zero (suc y) = inr (λ e. omega arith)
-same_number (suc x) zero = inr (λ e. omega arith)
-same_number (suc x) (suc y) = elim (same_number x y) [ inl e ↦ inl (ap suc e) | inr n ↦ inr (λ e. n (omega arith)) ]
 
 less : (x y : ℕ) → (x ≤ y) ⊎ (y < x)
 less zero y = inl (omega arith)
@@ -54,40 +21,6 @@ less (suc x) (suc y) = elim (less x y) [ inl e ↦ inl (omega arith) | inr e ↦
 
 at_most : (x y : ℕ) → IsDecidable (x ≤ y)
 at_most x y = elim (less x y) [ inl e ↦ inl e | inr e ↦ inr (λ h. omega arith) ]
-
-same_place : (a b : Place) → IsDecidable (a ≡ b)
-same_place at.Always at.Always = inl refl
-same_place at.Always (at.Import k) = inr (λ e. cc)
-same_place at.Always (at.Declaration k) = inr (λ e. cc)
-same_place at.Always (at.Name k) = inr (λ e. cc)
-same_place (at.Import j) at.Always = inr (λ e. cc)
-same_place (at.Import j) (at.Import k) = elim (same_number j k) [ inl e ↦ inl (ap (λ (x : ℕ). at.Import x) e) | inr n ↦ inr (λ e. n (cc)) ]
-same_place (at.Import j) (at.Declaration k) = inr (λ e. cc)
-same_place (at.Import j) (at.Name k) = inr (λ e. cc)
-same_place (at.Declaration j) at.Always = inr (λ e. cc)
-same_place (at.Declaration j) (at.Import k) = inr (λ e. cc)
-same_place (at.Declaration j) (at.Declaration k) = elim (same_number j k) [ inl e ↦ inl (ap (λ (x : ℕ). at.Declaration x) e) | inr n ↦ inr (λ e. n (cc)) ]
-same_place (at.Declaration j) (at.Name k) = inr (λ e. cc)
-same_place (at.Name j) at.Always = inr (λ e. cc)
-same_place (at.Name j) (at.Import k) = inr (λ e. cc)
-same_place (at.Name j) (at.Declaration k) = inr (λ e. cc)
-same_place (at.Name j) (at.Name k) = elim (same_number j k) [ inl e ↦ inl (ap (λ (x : ℕ). at.Name x) e) | inr n ↦ inr (λ e. n (cc)) ]
-
-same_option : {X : Type 0} → IsDecided X → IsDecided (Option X)
-same_option d None None = inl refl
-same_option d None (Some y) = inr (λ e. cc)
-same_option d (Some x) None = inr (λ e. cc)
-same_option d (Some x) (Some y) = elim (d x y) [ inl e ↦ inl (ap Some e) | inr n ↦ inr (λ e. n (cc)) ]
-
--- some element of a list has the property, or none has
-some_of : {X : Type 0} → (Q : X → Type 0) → ((x : X) → IsDecidable (Q x)) → (xs : List X) → ((x : X) × Contains xs x × Q x) ⊎ ((x : X) → Contains xs x → Q x → ⊥)
-some_of Q dec [] = inr (λ x c q. contains_nil x c)
-some_of {X} Q dec (z ∷ xs) = by (dec z) (some_of Q dec xs)
-  where
-    by : IsDecidable (Q z) → ((x : X) × Contains xs x × Q x) ⊎ ((x : X) → Contains xs x → Q x → ⊥) → ((x : X) × Contains (z ∷ xs) x × Q x) ⊎ ((x : X) → Contains (z ∷ xs) x → Q x → ⊥)
-    by (inl q) rest = inl (z, contains_first z xs, q)
-    by (inr n) (inl (x, c, q)) = inl (x, contains_later z x xs c, q)
-    by (inr n) (inr m) = inr (λ x c q. elim (contains_cases z x xs c) [ inl e ↦ n (subst (λ (y : X). Q y) (sym e) q) | inr d ↦ m x d q ])
 
 module _ {P N : Type 0} (ps : IsDecided P) (ns : IsDecided N) (t : Table P N) (l : LookUp P N) where
   sees : (a b : Place) → IsDecidable (Sees t a b)
@@ -100,20 +33,20 @@ module _ {P N : Type 0} (ps : IsDecided P) (ns : IsDecided N) (t : Table P N) (l
   declares : IsDecidable (DeclaresTo t l)
   declares = elim (some_of (λ d. (d.name ≡ Some l.name) × Sees t l.from d.place) (λ d. both (same_option ns d.name (Some l.name)) (sees l.from d.place)) t.declarations) [
     | inl found ↦ (let (d, c, q) = found in inl (d, c, q.0, q.1))
-    | inr none ↦ inr (λ x. let (d, c, e, s) = x in none d c (e, s))
+    | inr none ↦ inr (λ x. let (d, c, e, s) = x in none (d, c, e, s))
   ]
 
   -- an import that is seen and has a property
   seen_with : (Q : Import P N → Type 0) → ((i : Import P N) → IsDecidable (Q i)) → ((i : Import P N) × IsOpenTo t l i × Q i) ⊎ ((i : Import P N) → IsOpenTo t l i → Q i → ⊥)
   seen_with Q dec = elim (some_of (λ i. ((i.bound ≡ l.name) × Shows l.asker t.path i × Sees t l.from i.place) × Q i) (λ i. both (is_seen i) (dec i)) t.imports) [
     | inl found ↦ (let (i, c, q) = found in inl (i, ((c, q.0.0), q.0.1, q.0.2), q.1))
-    | inr none ↦ inr (λ i o q. none i o.0.0 ((o.0.1, o.1, o.2), q))
+    | inr none ↦ inr (λ i o q. none (i, o.0.0, (o.0.1, o.1, o.2), q))
   ]
 
   hidden : ((i : Import P N) × IsHiddenFrom t l i) ⊎ ((i : Import P N) → IsHiddenFrom t l i → ⊥)
   hidden = elim (some_of (λ i. (i.bound ≡ l.name) × (Shows l.asker t.path i → ⊥)) (λ i. both (ns i.bound l.name) (negated (either (same_bool i.published true) (same_option ps l.asker (Some t.path))))) t.imports) [
     | inl found ↦ (let (i, c, q) = found in inl (i, ((c, q.0), q.1)))
-    | inr none ↦ inr (λ i h. none i h.0.0 (h.0.1, h.1))
+    | inr none ↦ inr (λ i h. none (i, h.0.0, h.0.1, h.1))
   ]
 
   own : (i : Import P N) → IsDecidable (IsOwn t.path i)

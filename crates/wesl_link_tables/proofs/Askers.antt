@@ -6,7 +6,6 @@ use Rattle.std.proofs.lemmas.List.{length-map}
 use Rattle.std.proofs.lemmas.List.Elements.{Contains-append_left, Contains-append_right, Contains-append_cases, filter_agree}
 use Rattle.std.proofs.lemmas.Slice.Eq.{bytes_eq-Decides}
 use Rattle.wesl_tree_names.specs.Path.{Text, Path}
-use Rattle.wesl_tree_names.specs.PathOrder.{same_path}
 use Rattle.wesl_tree_names.proofs.Order.{same_path-decides}
 use Rattle.wesl_tree_syntax.specs.Tree.{TreeOf}
 use Rattle.wesl_tree_syntax.specs.Unit.{UnitOf}
@@ -26,8 +25,8 @@ use Rattle.wesl_link_split.specs.Laws.{EndAlike, AnswerAlike}
 use Rattle.wesl_link_split.specs.Split as split
 use Rattle.wesl_link_split.specs.Split.{Scope, binder_of, settled}
 use Rattle.wesl_link_split.specs.declared.binders.Binder.{Binder}
-use Rattle.wesl_link_split.proofs.Asked.{asks_as_itself}
-use Rattle.wesl_link_split.proofs.Targets.{both_true, any_there, not_any}
+use Rattle.wesl_link_split.proofs.Asked.{asks_as_itself, target_is}
+use Rattle.wesl_link_split.proofs.Targets.{any_there, not_any}
 use Rattle.wesl_link_split.proofs.Unsplit.{filter_in}
 use Rattle.wesl_link_tables.specs.Imports.{imports}
 use Rattle.wesl_link_tables.specs.Laws.{own_look_up, ImportsAskAsThemselves}
@@ -107,11 +106,6 @@ module _ {P N : Type 0} (t : Table P N) (own : P) (n : N) where
   )
 
 -- ---- targets of binders
-
-pub target_is : (b c : Ours) → split.same_target texts b c ≡ true → (b.path ≡ c.path) × (b.item ≡ c.item)
-target_is b c e =
-    let (path, item) = both_true (same_path b.path c.path) (bytes_eq b.item c.item) e in
-    ((same_path-decides b.path c.path).0 path, (bytes_eq-Decides b.item c.item).0 item)
 
 is_target : (b c : Ours) → (b.path ≡ c.path) × (b.item ≡ c.item) → split.same_target texts b c ≡ true
 is_target b c (path, item) = ap₂ (λ x y. x && y) ((same_path-decides b.path c.path).1 path) ((bytes_eq-Decides b.item c.item).1 item)

@@ -17,7 +17,8 @@ use Rattle.wesl_link_tables.specs.Imports.{imports}
 use Rattle.wesl_link_tables.specs.Laws.{PlainNamesHaveOneTarget}
 use Rattle.wesl_link_tables.specs.Tables.{scope_of}
 use Rattle.wesl_link_tables.specs.Uses.{texts}
-use Rattle.wesl_link_tables.proofs.Askers.{AreBinders, table, binders_of, mapped_from, in_filter, target_is}
+use Rattle.wesl_link_tables.proofs.Askers.{AreBinders, table, binders_of, mapped_from, in_filter}
+use Rattle.wesl_link_split.proofs.Asked.{target_is}
 
 abbrev Ours : Type 0
 Ours = Binder Path Text

@@ -12,7 +12,7 @@ use Rattle.wesl_link_split.specs.Split.{Scope}
 use Rattle.wesl_link_split.specs.declared.binders.Binder.{Binder}
 use Rattle.wesl_link_split.proofs.Grouping.{id_is}
 use mathlib.Core.Bool.{and-false}
-use Rattle.wesl_cond_alive.proofs.Once.{or_left, or_right}
+use Rattle.wesl_tree_base.proofs.Truth.{or_right, or_left}
 
 -- there is a binder of the name, or there is none
 named : (n : NameId) (bs : List (Binder PathId NameId)) (p : NameId → Bool) → list_any (λ b. p b.bound) bs ≡ false → (split.of_name ids n bs ≡ [] → p n ≡ false) → p n ≡ false

@@ -1,6 +1,6 @@
 -- A counted piece: its digits, and the pieces that they count.
 use Rattle.std.proofs.Common.{◌≡◌, ◌<◌, ◌≤◌, ◌+◌, ◌^◌, ℕ, zero, suc, Bool, true, false, not, cond, ◌&&◌, List, [], ◌∷◌, ◌++◌, length, map, take, drop, get_or, Some, None, Ok, Err, refl, ap, sym, ◌∙◌, ◌==◌, nat_le, arith, subst}
-use Rattle.std.proofs.lemmas.Bool.{ne_eqb, le-leb, leb-true, eqb-false}
+use Rattle.std.proofs.lemmas.Bool.{ne_eqb, le-leb, leb-true, eqb-false, not-true}
 use Rattle.std.proofs.lemmas.List.{take_more, map-append, get_or-take, length-map, take-map}
 use Rattle.std.proofs.lemmas.List.Sums.{prefix_len_passes, prefix_len-le-length}
 use Rattle.std.proofs.lemmas.List.Folds.{length-prefix_len}
@@ -15,7 +15,7 @@ use denote.Ref.{Bor}
 use Rattle.wesl_tree_names.specs.Path.{Text}
 use Rattle.wesl_mangle_forms.specs.Escape.{from_pieces, counted}
 use Rattle.wesl_tree_base.specs.Borrowed.{texts}
-use Rattle.wesl_mangle_forms.proofs.Cuts.{join-append, not-true}
+use Rattle.wesl_mangle_forms.proofs.Cuts.{join-append}
 
 pub joined-more : {A : Type 0} (g : A → Text) (p : Text) (items : List A) (i : ℕ) (a d : A) → i < length items → a ≡ get_or items i d
     → from_pieces (p ∷ map g (take i items)) ++ 95 ∷ g a ≡ from_pieces (p ∷ map g (take (i + 1) items))

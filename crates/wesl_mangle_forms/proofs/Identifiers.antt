@@ -1,6 +1,6 @@
 -- The escape form of identifiers is an identifier.
 use Rattle.std.proofs.Common.{◌≡◌, ◌<◌, ◌^◌, ℕ, zero, suc, Bool, true, false, not, cond, ◌&&◌, List, [], ◌∷◌, ◌++◌, length, replicate, refl, ap, sym, ◌∙◌, ◌==◌, arith, length-append, append_assoc, codes}
-use Rattle.std.proofs.lemmas.Bool.{and_parts, eqb-true, false≢true, or_parts}
+use Rattle.std.proofs.lemmas.Bool.{and_parts, eqb-true, false≢true, or_parts, not-true}
 use Rattle.std.proofs.lemmas.Fmt.{decimal_nonempty}
 use Rattle.std.specs.List.{slice_split, onto_first, flat_map, list_any, list_all}
 use Rattle.std.specs.Char.{is_ascii_digit}
@@ -9,7 +9,7 @@ use Rattle.std.specs.Str.{bytes_eq}
 use Rattle.wesl_tree_names.specs.Path.{Text, Origin, absolute, relative, from_package, Path}
 use Rattle.wesl_mangle_forms.specs.Escape.{pieces_of, parts_of, from_pieces, with_count, escaped_part, escaped_parts, escaped, escaped_origin, escaped_item, escape}
 use Rattle.wesl_mangle_forms.specs.Identifier.{is_identifier_byte, is_ascii_identifier, begins_with_two_underscores, is_identifier_origin, has_identifiers}
-use Rattle.wesl_mangle_forms.proofs.Cuts.{not-true, list_all-append, cut_none, clean, cut_clean, cut_some, join_longer}
+use Rattle.wesl_mangle_forms.proofs.Cuts.{list_all-append, cut_none, clean, cut_clean, cut_some, join_longer}
 use Rattle.wesl_mangle_forms.proofs.Reading.{uncut, length-with_count, parts_all, decimal_all, is_line}
 
 -- each byte

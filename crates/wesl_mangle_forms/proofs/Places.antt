@@ -1,6 +1,6 @@
 -- Places among pieces, and what is read from them on.
 use Rattle.std.proofs.Common.{◌≡◌, ◌<◌, ◌≤◌, ◌+◌, ◌-◌, ◌^◌, ℕ, zero, suc, Bool, true, false, not, ◌&&◌, List, [], ◌∷◌, ◌++◌, length, map, take, drop, Option, Some, None, option_map, option_and_then, IfSome, Err, refl, ap, sym, ◌∙◌, ◌==◌, arith, append_assoc, length-drop, String, Global, string_bytes, add-one, codes}
-use Rattle.std.proofs.lemmas.Bool.{and_parts, eqb-false}
+use Rattle.std.proofs.lemmas.Bool.{and_parts, eqb-false, not-true}
 use Rattle.std.proofs.lemmas.List.{take_all, drop-map, drop-drop, append-nil}
 use Rattle.std.proofs.lemmas.Slice.Eq.{bytes_eq-Decides}
 use Rattle.std.proofs.lemmas.Str.Parse.{parse_digits}
@@ -13,7 +13,6 @@ use Rattle.wesl_tree_names.specs.Path.{Text, Origin, from_package, relative}
 use Rattle.wesl_mangle_forms.specs.Escape.{◌>>=◌, from_parts, read_name, read_names, read_all_names, is_number, read_import, is_super, read_origin, item_below, unescaped}
 use Rattle.wesl_tree_base.specs.Borrowed.{texts}
 use Rattle.wesl_mangle_forms.specs.Views.{name_before}
-use Rattle.wesl_mangle_forms.proofs.Cuts.{not-true}
 use Rattle.wesl_mangle_forms.proofs.Names.{names-more, names-none, read_name-shorter}
 use Rattle.wesl_mangle_forms.proofs.Reading.{own, import-step}
 

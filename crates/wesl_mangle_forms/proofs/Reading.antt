@@ -1,6 +1,6 @@
 -- What was written in the escape form is read back.
 use Rattle.std.proofs.Common.{◌≡◌, ◌<◌, ◌≤◌, ◌^◌, ℕ, zero, suc, Bool, true, false, not, cond, ◌&&◌, ◌||◌, List, [], ◌∷◌, ◌++◌, length, take, drop, replicate, Option, Some, None, option_map, refl, ap, sym, subst, ◌∙◌, ◌==◌, nat_le, arith, length-append, append_assoc}
-use Rattle.std.proofs.lemmas.Bool.{and_parts, false≢true, le-leb, ne_eqb, or_parts}
+use Rattle.std.proofs.lemmas.Bool.{and_parts, false≢true, le-leb, ne_eqb, or_parts, not-true}
 use Rattle.std.proofs.lemmas.List.{take_at, drop_at, append-nil, length-replicate}
 use Rattle.std.proofs.lemmas.List.Concat.{flat_map-append}
 use Rattle.std.proofs.lemmas.List.Elements.{All-nil, All-cons, All-head, All-tail, All-push}
@@ -17,7 +17,7 @@ use lib.Chars.{codes}
 use Rattle.wesl_tree_names.specs.Path.{Text, Origin, absolute, relative, from_package, Path}
 use Rattle.wesl_mangle_forms.specs.Escape.{◌>>=◌, pieces_of, parts_of, from_pieces, from_parts, with_count, escaped_part, escaped_parts, escaped, escaped_origin, escaped_item, escape, counted, read_name, read_names, read_all_names, read_import, is_super, read_origin, item_below, unescaped, is_word, is_plain, is_plain_origin, is_reversible}
 use Rattle.wesl_mangle_forms.specs.Laws.{IsShort, IsShortOrigin, HasShortNames, RoundTrip}
-use Rattle.wesl_mangle_forms.proofs.Cuts.{not-true, first_fails, prefix_len-all, list_all-append, list_any-append, cut_none, clean, cut_clean, cut_some, cut_join}
+use Rattle.wesl_mangle_forms.proofs.Cuts.{first_fails, prefix_len-all, list_all-append, list_any-append, cut_none, clean, cut_clean, cut_some, cut_join}
 
 -- decimal texts
 

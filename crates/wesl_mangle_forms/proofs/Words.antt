@@ -1,6 +1,6 @@
 -- The words of the Unicode form stand for the item that they were made of.
 use Rattle.std.proofs.Common.{◌≡◌, ◌≢◌, ◌<◌, ◌≤◌, ◌+◌, ℕ, zero, suc, Bool, true, false, not, cond, ◌&&◌, List, [], ◌∷◌, ◌++◌, length, get_or, map, take, replicate, Option, Some, refl, ap, sym, ◌∙◌, ◌==◌, arith, append_assoc, length-append, codes}
-use Rattle.std.proofs.lemmas.Bool.{and_parts, false≢true, or_parts}
+use Rattle.std.proofs.lemmas.Bool.{and_parts, false≢true, or_parts, not-true}
 use Rattle.std.proofs.lemmas.List.{take_more, map-append, append-nil, length-replicate, replicate-append-replicate}
 use Rattle.std.specs.List.{prefix_len, list_all}
 use Rattle.std.specs.Str.{bytes_eq}
@@ -8,7 +8,7 @@ use Rattle.wesl_tree_names.specs.Path.{Text, Origin, absolute, relative, from_pa
 use Rattle.wesl_mangle_forms.specs.Escape.{◌>>=◌, is_super, item_below}
 use Rattle.wesl_mangle_forms.specs.Laws.{UnicodeRoundTrip}
 use Rattle.wesl_mangle_forms.specs.Unicode.{mark, separator, from_words, origin_words, words_of_item, words_after, words_of, read_origin_words, item_of_words, has_mark, is_own_word, is_own_origin, has_own_words}
-use Rattle.wesl_mangle_forms.proofs.Cuts.{not-true, first_fails, prefix_len-all, list_all-append}
+use Rattle.wesl_mangle_forms.proofs.Cuts.{first_fails, prefix_len-all, list_all-append}
 use Rattle.wesl_mangle_forms.proofs.Reading.{below-item, supers, read_origin-supers}
 use Rattle.wesl_mangle_forms.proofs.TypeTexts.{join-last}
 use mathlib.Core.Bool.{and-false}

@@ -32,25 +32,19 @@ value_at-lookup p (e ∷ es) =
 
 -- ---- one more value
 
-same : (p q : Path) → same_path p q ≡ true → p ≡ q
-same p q = (same_path-decides p q).0
-
-itself : (p q : Path) → p ≡ q → same_path p q ≡ true
-itself p q = (same_path-decides p q).1
-
 -- the path put is the first one
 over-first : (p q r : Path) (new old : Data) (others : Option Data) (c : Bool) → same_path p r ≡ true → same_path q r ≡ c
     → (if c then Some new else others) ≡ (if same_path p q then Some new else (if c then Some old else others))
-over-first p q r new old others true is c_is = rw (itself p q (same p r is ∙ sym (same q r c_is))) refl
+over-first p q r new old others true is c_is = rw ((same_path-decides p q).1 ((same_path-decides p r).0 is ∙ sym ((same_path-decides q r).0 c_is))) refl
 over-first p q r new old others false is c_is =
-    let apart : same_path p q ≡ false = false_from_ne_true (same_path p q) (λ e. true≢false (sym (itself q r (sym (same p q e) ∙ same p r is)) ∙ c_is)) in
+    let apart : same_path p q ≡ false = false_from_ne_true (same_path p q) (λ e. true≢false (sym ((same_path-decides q r).1 (sym ((same_path-decides p q).0 e) ∙ (same_path-decides p r).0 is)) ∙ c_is)) in
     rw apart refl
 
 -- it is another
 past-first : (p q r : Path) (new old : Data) (others after : Option Data) (c : Bool) → same_path p r ≡ false → same_path q r ≡ c → after ≡ (if same_path p q then Some new else others)
     → (if c then Some old else after) ≡ (if same_path p q then Some new else (if c then Some old else others))
 past-first p q r new old others after true is c_is h =
-    let apart : same_path p q ≡ false = false_from_ne_true (same_path p q) (λ e. true≢false (sym (itself p r (same p q e ∙ same q r c_is)) ∙ is)) in
+    let apart : same_path p q ≡ false = false_from_ne_true (same_path p q) (λ e. true≢false (sym ((same_path-decides p r).1 ((same_path-decides p q).0 e ∙ (same_path-decides q r).0 c_is)) ∙ is)) in
     rw apart refl
 past-first p q r new old others after false is c_is h = h
 
@@ -61,9 +55,9 @@ either p q k v e es fs true is_k is h = over-first p q (path_view e.0) (borrowed
 either p q k v e es fs false is_k is h = past-first p q (path_view e.0) (borrowed_view v) (borrowed_view e.1) (value_at q (values_of es)) (value_at q (values_of fs)) (same_path q (path_view e.0)) is refl h
 
 single : (p q : Path) (d : Data) (c : Bool) → same_path q p ≡ c → (if c then Some d else None) ≡ (if same_path p q then Some d else None)
-single p q d true c_is = rw (itself p q (sym (same q p c_is))) refl
+single p q d true c_is = rw ((same_path-decides p q).1 (sym ((same_path-decides q p).0 c_is))) refl
 single p q d false c_is =
-    let apart : same_path p q ≡ false = false_from_ne_true (same_path p q) (λ e. true≢false (sym (itself q p (sym (same p q e))) ∙ c_is)) in
+    let apart : same_path p q ≡ false = false_from_ne_true (same_path p q) (λ e. true≢false (sym ((same_path-decides q p).1 (sym ((same_path-decides p q).0 e))) ∙ c_is)) in
     rw apart refl
 
 value_at-insert : (q : Path) (es : List Entry) (k : ModulePath) (v : BorrowedValue) → value_at q (values_of (insert_entry path_eq es k v)) ≡ (if same_path (path_view k) q then Some (borrowed_view v) else value_at q (values_of es))

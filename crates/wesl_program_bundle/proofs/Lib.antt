@@ -2,7 +2,6 @@ pub mod Places
 pub mod Readings
 pub mod Wholes
 pub mod Flags
-pub mod Depths
 pub mod Together
 pub mod Listed
 pub mod Lists

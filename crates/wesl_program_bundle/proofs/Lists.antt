@@ -14,9 +14,9 @@ use Rattle.wesl_program_bundle.specs.Broken.{IfPlace, IsMemberBroken, IsUnder, L
 use Rattle.wesl_program_bundle.specs.Forms.{Form, IsBroken, a_list_of, optional}
 use Rattle.wesl_program_bundle.specs.Parts.{IsFaultUnder, IsItemFault, IsWithItem}
 use Rattle.wesl_program_bundle.specs.Reading.{items_in, or_empty}
-use Rattle.wesl_program_bundle.proofs.Depths.{array-depth, get-depth, item-depth}
+use Rattle.wesl_json_form.proofs.Depths.{array-depth, get-depth, item-depth, item-at}
 use Rattle.wesl_program_bundle.proofs.Places.{IfPlace-memory, IfPlace-more, IfPlace-under, Locates-here, Locates-item, LocatesMember-under}
-use Rattle.wesl_program_bundle.proofs.Readings.{item-at, items_in-turn}
+use Rattle.wesl_program_bundle.proofs.Readings.{items_in-turn}
 
 -- the items of the list that is there, or none where nothing is
 abbrev pub AreItems : Option Data → List BorrowedValue → Type 0

@@ -1,8 +1,8 @@
 -- Lists and objects, read item by item and member by member.
 use Rattle.std.proofs.Common.{◌≡◌, ℕ, zero, suc, ◌+◌, ◌<◌, List, [], ◌∷◌, ◌++◌, take, length, get_or, Bool, true, false, Option, Some, None, option_and_then, refl, sym, ap, ◌∙◌, codes, arith}
 use Rattle.std.proofs.lemmas.List.{take_more}
-use Rattle.serde_json.specs.Data.{Data, null, boolean, number, string, array, object}
-use Rattle.serde_json.specs.Find.{get, at, get_item, as_array, as_bool, as_str}
+use Rattle.serde_json.specs.Data.{Data}
+use Rattle.serde_json.specs.Find.{get, get_item, as_bool, as_str}
 use Rattle.wesl_json_form.specs.View.{borrowed_view, items_view}
 use Rattle.wesl_json_form.specs.declared.value.BorrowedValue.{BorrowedValue}
 use Rattle.wesl_tree_names.specs.Path.{Text, Path}
@@ -23,16 +23,6 @@ item-found : (vs : List BorrowedValue) (i : ℕ) (v : BorrowedValue) → i < len
 item-found [] i v low e = absurd (omega arith)
 item-found (w ∷ vs) zero v low e = ap (λ x. Some (borrowed_view x)) (sym e)
 item-found (w ∷ vs) (suc i) v low e = item-found vs i v (omega arith) e
-
-pub item-at : (d : Data) (vs : List BorrowedValue) (i : ℕ) (v : BorrowedValue) → as_array d ≡ Some (items_view vs) → i < length vs → v ≡ get_or vs i v → at i d ≡ Some (borrowed_view v)
-item-at null vs i v h low e = cc
-item-at (boolean b) vs i v h low e = cc
-item-at (number n) vs i v h low e = cc
-item-at (string s) vs i v h low e = cc
-item-at (array es) vs i v h low e =
-    let same : es ≡ items_view vs = cc in
-    ap (get_item i) same ∙ item-found vs i v low e
-item-at (object ms) vs i v h low e = cc
 
 pub longer : {X : Type 0} (vs : List X) (i : ℕ) (v : X) → i < length vs → v ≡ get_or vs i v → take (i + 1) vs ≡ take i vs ++ v ∷ []
 longer vs i v low e = take_more vs i v low ∙ ap (λ x. take i vs ++ x ∷ []) (sym e)

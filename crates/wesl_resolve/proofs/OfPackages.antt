@@ -1,5 +1,5 @@
 -- Equality of packages and of their modules.
-use Rattle.std.proofs.Common.{◌≡◌, subst, Bool, true, false, ◌&&◌, List, [], ◌∷◌, map, refl, ap, ◌∙◌, string_bytes, String, Global}
+use Rattle.std.proofs.Common.{◌≡◌, subst, Bool, true, ◌&&◌, List, [], ◌∷◌, map, refl, ap, ◌∙◌, string_bytes, String, Global}
 use Rattle.std.specs.Bool.{Decides}
 use Rattle.std.specs.Cmp.Lexicographic.{pointwise}
 use Rattle.std.specs.String.{string_eq}
@@ -21,15 +21,8 @@ use Rattle.wesl_resolve_base.specs.declared.packages.CodegenPkg.TheBlock as pack
 use Rattle.wesl_resolve_base.specs.declared.packages.CodegenPkg.TheViews.{roll-CodegenPkg, out-roll-CodegenPkg, roll-out-CodegenPkg}
 use Rattle.wesl_resolve_base.specs.declared.packages.CodegenPkg.TheFolds.{ind-CodegenPkg, fold-roll-CodegenPkg}
 use Rattle.wesl_resolve.specs.PackageViews.{SaidModule, module_before, modules_in_order, module_step, module_view, SaidPackage, package_before, packages_in_order, package_step, package_view}
-
--- a test of something equivalent
-along : {P Q : Type 0} {r : Bool} → Decides r P → (P → Q) → (Q → P) → Decides r Q
-along d there back = (λ e. there (d.0 e), λ q. d.1 (back q))
-
--- a test of two things
-both : {P Q : Type 0} (r s : Bool) → Decides r P → Decides s Q → Decides (r && s) (P × Q)
-both true s d e = (λ h. (d.0 refl, e.0 h), λ pq. e.1 pq.1)
-both false s d e = (λ h. cc, λ pq. d.1 pq.0)
+use Rattle.wesl_tree_base.proofs.Deciding.{along}
+use Rattle.std.proofs.lemmas.Bool.Decides.{Decides-and as both}
 
 texts_decided : (s t : String Global) → Decides (string_eq s t) (string_bytes s ≡ string_bytes t)
 texts_decided s t = bytes_eq-Decides (string_bytes s) (string_bytes t)

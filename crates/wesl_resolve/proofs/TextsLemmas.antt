@@ -34,25 +34,19 @@ texts_of-insert [] k v = refl
 texts_of-insert (e ∷ es) k v =
     rw (path_eq-view k e.0) (placed (same_path (path_view k) (path_view e.0)) e.0 e.1 v es (insert_entry path_eq es k v) (put (path_view k) (string_bytes v) (texts_of es)) (texts_of-insert es k v))
 
-same : (p q : Path) → same_path p q ≡ true → p ≡ q
-same p q = (same_path-decides p q).0
-
-itself : (p q : Path) → p ≡ q → same_path p q ≡ true
-itself p q = (same_path-decides p q).1
-
 -- the path put is the first one
 over-first : (p q r : Path) (text old : Text) (others : Option Text) (c : Bool) → same_path p r ≡ true → same_path q r ≡ c
     → (if c then Some text else others) ≡ (if same_path p q then Some text else (if c then Some old else others))
-over-first p q r text old others true is c_is = rw (itself p q (same p r is ∙ sym (same q r c_is))) refl
+over-first p q r text old others true is c_is = rw ((same_path-decides p q).1 ((same_path-decides p r).0 is ∙ sym ((same_path-decides q r).0 c_is))) refl
 over-first p q r text old others false is c_is =
-    let apart : same_path p q ≡ false = false_from_ne_true (same_path p q) (λ e. true≢false (sym (itself q r (sym (same p q e) ∙ same p r is)) ∙ c_is)) in
+    let apart : same_path p q ≡ false = false_from_ne_true (same_path p q) (λ e. true≢false (sym ((same_path-decides q r).1 (sym ((same_path-decides p q).0 e) ∙ (same_path-decides p r).0 is)) ∙ c_is)) in
     rw apart refl
 
 -- it is another
 past-first : (p q r : Path) (text old : Text) (others after : Option Text) (c : Bool) → same_path p r ≡ false → same_path q r ≡ c → after ≡ (if same_path p q then Some text else others)
     → (if c then Some old else after) ≡ (if same_path p q then Some text else (if c then Some old else others))
 past-first p q r text old others after true is c_is h =
-    let apart : same_path p q ≡ false = false_from_ne_true (same_path p q) (λ e. true≢false (sym (itself p r (same p q e ∙ same q r c_is)) ∙ is)) in
+    let apart : same_path p q ≡ false = false_from_ne_true (same_path p q) (λ e. true≢false (sym ((same_path-decides p r).1 ((same_path-decides p q).0 e ∙ (same_path-decides q r).0 c_is)) ∙ is)) in
     rw apart refl
 past-first p q r text old others after false is c_is h = h
 
@@ -62,9 +56,9 @@ text_at-either p q text e es true is h = over-first p q e.0 text e.1 (text_at q 
 text_at-either p q text e es false is h = past-first p q e.0 text e.1 (text_at q es) (text_at q (put p text es)) (same_path q e.0) is refl h
 
 single : (p q : Path) (text : Text) (c : Bool) → same_path q p ≡ c → (if c then Some text else None) ≡ (if same_path p q then Some text else None)
-single p q text true c_is = rw (itself p q (sym (same q p c_is))) refl
+single p q text true c_is = rw ((same_path-decides p q).1 (sym ((same_path-decides q p).0 c_is))) refl
 single p q text false c_is =
-    let apart : same_path p q ≡ false = false_from_ne_true (same_path p q) (λ e. true≢false (sym (itself q p (sym (same p q e))) ∙ c_is)) in
+    let apart : same_path p q ≡ false = false_from_ne_true (same_path p q) (λ e. true≢false (sym ((same_path-decides q p).1 (sym ((same_path-decides p q).0 e))) ∙ c_is)) in
     rw apart refl
 
 -- the text that was put last is at its path

@@ -14,7 +14,7 @@ use Rattle.wesl_scope_numbers.specs.Test.{has_number}
 use Rattle.wesl_scope_clashes.specs.declared.clash.Reading.{Reading}
 use Rattle.wesl_scope_clashes.specs.declared.clash.Reading.TheVariants.{Unbound}
 use Rattle.wesl_scope_clashes.specs.Clashes.{has_other, read_among, is_rival, misreading, clash_at, clashes}
-use Rattle.wesl_scope_open.proofs.Forests.{and_left}
+use Rattle.wesl_tree_base.proofs.Truth.{and_left}
 
 -- ---- lists of which nothing is found
 all_from : {X : Type 0} (P : X → Type 0) (x : X) (xs : List X) → P x → All P xs → All P (x ∷ xs)

@@ -30,12 +30,12 @@ view_set [] from v = refl
 view_set (w ∷ graph) zero v = refl
 view_set (w ∷ graph) (suc from) v = ap (λ g. w.items ∷ g) (view_set graph from v)
 
-items_at : (graph : List (Vec ℕ Global)) (a : ℕ) (v : Vec ℕ Global) → a < length graph → v ≡ get_or graph a v → v.items ≡ edges_at (graph_view graph) a
+pub items_at : (graph : List (Vec ℕ Global)) (a : ℕ) (v : Vec ℕ Global) → a < length graph → v ≡ get_or graph a v → v.items ≡ edges_at (graph_view graph) a
 items_at [] a v h e = absurd (omega (arith, h))
 items_at (w ∷ graph) zero v h e = ap (λ x. x.items) e
 items_at (w ∷ graph) (suc a) v h e = items_at graph a v (omega (arith, h)) e
 
-length_view : (graph : List (Vec ℕ Global)) → length (graph_view graph) ≡ length graph
+pub length_view : (graph : List (Vec ℕ Global)) → length (graph_view graph) ≡ length graph
 length_view [] = refl
 length_view (v ∷ graph) = ap suc (length_view graph)
 

@@ -20,7 +20,7 @@ marked_within [] a h = cc
 marked_within (m ∷ ms) zero h = omega arith
 marked_within (m ∷ ms) (suc a) h = omega (arith, marked_within ms a h)
 
-length_set : (ms : List Bool) (n : ℕ) (b : Bool) → length (set ms n b) ≡ length ms
+pub length_set : (ms : List Bool) (n : ℕ) (b : Bool) → length (set ms n b) ≡ length ms
 length_set [] n b = refl
 length_set (m ∷ ms) zero b = refl
 length_set (m ∷ ms) (suc n) b = ap suc (length_set ms n b)

@@ -8,13 +8,9 @@ use Rattle.wesl_scope_groups.specs.Groups.{AreMutual, AreGroups, all_set, IsGrou
 use Rattle.wesl_scope_values.specs.Values.{ReachedFrom, itself, onward, ReachedFromOne, IsTurned, value_at}
 use Rattle.wesl_scope_values.specs.Walks.{cleared, Walked, SetsFirst}
 use Rattle.wesl_scope_values.proofs.Edges.{contains_none, contains_here, contains_cases, way_back, way_there}
-use Rattle.wesl_scope_values.proofs.Walked.{length_set, set_before, set_stays, left_cleared, length_cleared}
-
-no : {P : Type 0} → false ≡ true → P
-no e = absurd (let f : false ≡ true = e in cc)
-
-some_not_none : {P : Type 0} (o : Option ℕ) (v : ℕ) → o ≡ Some v → o ≡ None → P
-some_not_none o v e f = absurd (let g : Some v ≡ None = sym e ∙ f in cc)
+use Rattle.wesl_scope_values.proofs.Walked.{set_before, set_stays, left_cleared, length_cleared}
+use Rattle.wesl_scope_graph.proofs.Meeting.{length_set}
+use Rattle.wesl_scope_values.proofs.HandedOn.{no, some_not_none}
 
 -- ---- marks
 

@@ -13,6 +13,7 @@ use Rattle.wesl_scope_meanings.specs.Keys.{flat}
 use Rattle.wesl_scope_meanings.specs.contracts.keys.KeyPartialEq.TheImpl as equality
 use Rattle.wesl_scope_meanings.specs.declared.keys.Key.{Key}
 use Rattle.wesl_scope_meanings.specs.declared.keys.Key.TheVariants as made
+use Rattle.wesl_tree_base.proofs.Deciding.{along}
 
 -- two tests that decide one fact are one
 pub one_test : {P : Type 0} (r s : Bool) → Decides r P → Decides s P → r ≡ s
@@ -20,9 +21,6 @@ one_test true true d e = refl
 one_test false false d e = refl
 one_test true false d e = sym (e.1 (d.0 refl))
 one_test false true d e = d.1 (e.0 refl)
-
-along : {P Q : Type 0} {r : Bool} → Decides r P → (P → Q) → (Q → P) → Decides r Q
-along d f g = (λ e. f (d.0 e), λ q. d.1 (g q))
 
 texts_decide : (xs ys : List Text) → Decides (same_components xs ys) (xs ≡ ys)
 texts_decide [] [] = (λ e. refl, λ e. refl)

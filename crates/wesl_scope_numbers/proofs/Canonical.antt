@@ -16,7 +16,7 @@ use Rattle.wesl_scope_numbers.specs.Retargeted.{unbound_as, IsUnbound, FollowMea
 use Rattle.wesl_scope_numbers.proofs.Picked.{Picked, none, some, picked, all_filtered}
 use Rattle.wesl_scope_numbers.proofs.Faith.{all_decides, if_decides}
 use Rattle.wesl_scope_occurrences.proofs.Ended.{other_default}
-use Rattle.wesl_scope_open.proofs.Forests.{and_left, and_right}
+use Rattle.wesl_tree_base.proofs.Truth.{and_right, and_left}
 
 -- the key of a binder
 pub binder_key : (all : List (Occurrence Text)) (x : Occurrence Text) (r : Standing) → is_binder r ≡ true → key_as all x r ≡ bound x.block x.name

@@ -51,7 +51,8 @@ use Rattle.wesl_tree_syntax.specs.declared.statement.SwitchClause.{SwitchClause,
 use Rattle.wesl_tree_syntax.specs.declared.statement.Statement.TheOpen.{Statement-F, CompoundStatement-F, ContinuingStatement-F, ElseClause-F, ElseIfClause-F, IfClause-F, SwitchClause-F}
 use Rattle.wesl_tree_syntax.specs.declared.statement.Statement.TheFolds.{ind-CompoundStatement, fold-roll-Statement, fold-roll-CompoundStatement, fold-roll-ContinuingStatement, fold-roll-ElseClause, fold-roll-ElseIfClause, fold-roll-IfClause, fold-roll-SwitchClause}
 use Rattle.wesl_scope_numbers.specs.Leaves.{is_leaf, are_leaves, HaveLeaves}
-use Rattle.wesl_scope_open.proofs.Typed.{argument_seen, call_seen, clause_seen, compound_seen, content_seen, continuing_seen, else_if_seen, else_seen, entry_seen, expression_seen, if_seen, statement_seen, type_seen}
+use Rattle.wesl_scope_open.proofs.Typed.{clause_seen, compound_seen, continuing_seen, else_if_seen, else_seen, if_seen, statement_seen}
+use Rattle.wesl_tree_syntax.proofs.Seen.{entry_seen, content_seen, type_seen, argument_seen, call_seen, expression_seen}
 
 abbrev pub IsLeafy : Tree → Type 0
 IsLeafy t = (is_leaf t.label t.children && are_leaves t.children) ≡ true

@@ -1,7 +1,6 @@
 -- A unit with other numbers.
 use Rattle.std.proofs.Common.{◌≡◌, ℕ, suc, ◌<◌, Bool, true, false, ◌&&◌, List, [], ◌∷◌, ◌++◌, length, map, refl, sym, ◌∙◌, ap, subst, arith}
-use Rattle.std.specs.Prelude.{nat_lt, Option, Some, None, MatchOption}
-use Rattle.std.specs.Option.{IsSome}
+use Rattle.std.specs.Prelude.{nat_lt}
 use Rattle.std.specs.List.{All}
 use Rattle.std.proofs.lemmas.Bool.Decides.{Decides-ltb}
 use Rattle.wesl_tree_names.specs.Path.{Text}
@@ -70,13 +69,6 @@ still_below v w names ns l r h b =
     let f = (t.below (length names) (each_below (length names) ns b)).0 in
     parts_below (length w.names) w.imports w.directives w.declarations
     (subst (λ n. forest_below n (forest_of_unit (trees_of w)) ≡ true) (sym (ap length r.names_are)) (subst (λ g. forest_below (length names) g ≡ true) (sym (forest_is v w names ns r)) f))
-
-pub some_if : {X : Type 0} (r : Option X) (b : Bool) (Q : X → Type 0) → MatchOption r (b ≡ false) Q → b ≡ true → IsSome r
-some_if None b Q h e = let f : true ≡ false = sym e ∙ h in cc
-some_if (Some x) b Q h e = refl
-
-pub some_of : {X : Type 0} (r : Option X) (x : X) (P : Type 0) (Q : X → Type 0) → r ≡ Some x → MatchOption r P Q → Q x
-some_of r x P Q e h = subst (λ o. MatchOption o P Q) e h
 
 -- from what the three parts are
 parted : (v : UnitView) (names : List Text) (ns r1 r2 : List ℕ) (ti td te i d e : Tree) → ti ≡ v.imports → td ≡ v.directives → te ≡ v.declarations

@@ -30,7 +30,7 @@ use Rattle.wesl_scope_numbers.proofs.Along.{Lasts, lasts, any_there, Fits, Gathe
 use Rattle.wesl_scope_numbers.proofs.References.{shape, shape_lasts, reads_of, Beside, Judges, judges, judged_one, outside_one}
 use Rattle.wesl_scope_numbers.proofs.Directed.{Directed, all_directed, all_named}
 use Rattle.std.proofs.lemmas.Bool.{and_from, or_left, or_right}
-use Rattle.wesl_scope_open.proofs.Forests.{and_left, and_right}
+use Rattle.wesl_tree_base.proofs.Truth.{and_right, and_left}
 
 -- ---- truth
 pub same_truth : (a b : Bool) → (a ≡ true → b ≡ true) → (b ≡ true → a ≡ true) → a ≡ b

@@ -3,8 +3,8 @@ use Rattle.std.proofs.Common.{◌≡◌, ◌⊎◌, inl, inr, ℕ, suc, true, fa
 use Rattle.std.specs.Prelude.{Some, None, Option}
 use Rattle.std.specs.Box.{box_value}
 use Rattle.std.specs.Global.{Box, Vec}
-use Rattle.wesl_tree_syntax.specs.Tree.{Kind, Tree, parameter as parameter_kind, import_statement, forest_of, branch, statements, loop, continuing, for_loop, compound, declaration, function, literal, binder, leaf, kind, absent, present, list, parameters, reference, type_expression}
-use Rattle.wesl_tree_syntax.specs.View.{kind_tree, literal_tree, attributes_tree, ident_tree, optional, listed, type_view, parameter_view, expression_tree, statement_tree, statement_view, path_tree, boxed_path}
+use Rattle.wesl_tree_syntax.specs.Tree.{Kind, Tree, parameter as parameter_kind, import_statement, forest_of, branch, statements, loop, continuing, for_loop, compound, function, literal, binder, leaf, kind, absent, present, list, parameters, reference, type_expression}
+use Rattle.wesl_tree_syntax.specs.View.{literal_tree, attributes_tree, ident_tree, optional, listed, type_view, parameter_view, expression_tree, statement_tree, statement_view, path_tree, boxed_path}
 use Rattle.wesl_tree_syntax.specs.declared.attribute.Attribute.{Attribute}
 use Rattle.wesl_tree_syntax.specs.declared.expression.Expression.{Expression}
 use Rattle.wesl_tree_syntax.specs.declared.expression.TypeExpression.{TypeExpression}
@@ -25,6 +25,7 @@ use Rattle.wesl_tree_syntax.specs.declared.statement.Statement as made
 use Rattle.wesl_scope_occurrences.proofs.Telling.{Told, say, tell, told_by}
 use Rattle.wesl_scope_occurrences.proofs.Views.{view_any_type}
 use Rattle.wesl_tree_syntax.proofs.Views.{view_decrement, view_increment}
+use Rattle.wesl_tree_syntax.proofs.Seen.{value_tree}
 
 abbrev pub holding : Here → Told → Here
 holding here s = record here { held_block = length s.outer }
@@ -90,10 +91,6 @@ pub for_joined : (here h inner hb below : Here) (s : Told) (n : ℕ) (a : Vec (S
     ≡ told_by here s (for_tree a i c u bs)
 for_joined here h inner hb below s n a i c u bs b eb eh ei en ehb ebelow =
     rw (ebelow, ehb, ei, eh, eb, en) (for_walked here s a i c u bs (length (s.outer ++ here.block ∷ [])) (one_more s.outer here.block))
-
--- a declared value
-abbrev pub value_tree : Vec (Spanned Attribute) → DeclarationKind → Ident → Option TypeExpression → Option (Spanned Expression) → Tree
-value_tree a k x t e = branch declaration (attributes_tree a ∷ kind_tree k ∷ ident_tree binder x ∷ optional type_view t ∷ optional expression_tree e ∷ [])
 
 abbrev pub value_told : Here → Told → Vec (Spanned Attribute) → Ident → Option TypeExpression → Option (Spanned Expression) → Told
 value_told here s a x t e =

@@ -10,6 +10,7 @@ use Rattle.wesl_scope_open.specs.Open.{Readings, or_module}
 use Rattle.wesl_scope_open.proofs.Runs.{Found, shows, first_in, key_read}
 use Rattle.wesl_scope_open.proofs.Still.{by_numbers, IsCalm, StillIn, knows, Still, still_none_in, still_then_in}
 use Rattle.wesl_scope_occurrences.proofs.Cutting.{append_nil}
+use Rattle.wesl_tree_base.proofs.Truth.{and_left, and_right}
 
 -- ---- labels
 module _ {I : Type 0} where
@@ -161,14 +162,6 @@ module _ {I : Type 0} where
   no_ident_there (access v) c h = (refl, h)
   no_ident_there (path v) c h = (refl, h)
   no_ident_there (ident r x) c h = absurd (let z : ⊥ = cc in z)
-
-pub and_left : (a b : Bool) → (a && b) ≡ true → a ≡ true
-and_left true b h = refl
-and_left false b h = h
-
-pub and_right : (a b : Bool) → (a && b) ≡ true → b ≡ true
-and_right true b h = h
-and_right false b h = absurd (let z : ⊥ = cc in z)
 
 -- a node whose fields all stand in the same surroundings
 abbrev pub simple_node : {B : Type 0} → Surroundings B → Option Path → Declares → Node B

@@ -13,7 +13,7 @@ use Rattle.wesl_tree_syntax.specs.declared.expression.Expression.{Expression, ma
 use Rattle.wesl_tree_syntax.specs.declared.expression.FunctionCall.{FunctionCall, map-FunctionCall}
 use Rattle.wesl_tree_syntax.specs.declared.expression.TemplateArg.{TemplateArg, map-TemplateArg}
 use Rattle.wesl_tree_syntax.specs.declared.expression.TypeExpression.{TypeExpression, map-TypeExpression}
-use Rattle.wesl_tree_syntax.specs.declared.expression.Expression.TheOpen.{Expression-F, FunctionCall-F, TemplateArg-F, TypeExpression-F}
+use Rattle.wesl_tree_syntax.specs.declared.expression.Expression.TheOpen.{Expression-F, FunctionCall-F, TemplateArg-F}
 use Rattle.wesl_tree_syntax.specs.declared.expression.Expression.TheFolds.{ind-Expression, ind-FunctionCall, ind-TypeExpression, fold-roll-Expression, fold-roll-FunctionCall, fold-roll-TemplateArg, fold-roll-TypeExpression}
 use Rattle.wesl_tree_syntax.specs.declared.attribute.Attribute.{Attribute}
 use Rattle.wesl_tree_syntax.specs.declared.attribute.Attribute.TheVariants as attr
@@ -39,19 +39,22 @@ use Rattle.wesl_tree_syntax.specs.declared.statement.SwitchClause.{SwitchClause,
 use Rattle.wesl_tree_syntax.specs.declared.statement.Statement.TheOpen.{Statement-F, CompoundStatement-F, ContinuingStatement-F, ElseClause-F, ElseIfClause-F, IfClause-F, SwitchClause-F}
 use Rattle.wesl_tree_syntax.specs.declared.statement.Statement.TheFolds.{ind-CompoundStatement, fold-roll-Statement, fold-roll-CompoundStatement, fold-roll-ContinuingStatement, fold-roll-ElseClause, fold-roll-ElseIfClause, fold-roll-IfClause, fold-roll-SwitchClause}
 use Rattle.wesl_tree_syntax.specs.declared.import.ImportItem.{ImportItem}
-use Rattle.wesl_tree_syntax.specs.declared.import.ImportContent.{ImportContent, map-ImportContent}
+use Rattle.wesl_tree_syntax.specs.declared.import.ImportContent.{ImportContent}
 use Rattle.wesl_tree_syntax.specs.declared.import.ImportContent.TheOpen.{ImportContent-F, Import-F}
 use Rattle.wesl_tree_syntax.specs.declared.import.ImportContent.TheFolds.{ind-ImportContent, fold-roll-ImportContent, fold-roll-Import}
-use Rattle.wesl_tree_syntax.specs.declared.import.Import.{Import, map-Import}
+use Rattle.wesl_tree_syntax.specs.declared.import.Import.{Import}
 use Rattle.wesl_tree_syntax.specs.declared.import.ImportStatement.{ImportStatement}
 use Rattle.wesl_tree_syntax.specs.declared.declaration.GlobalDirective.{GlobalDirective}
 use Rattle.wesl_tree_syntax.specs.declared.declaration.GlobalDirective.TheVariants as directives
 use Rattle.wesl_tree_syntax.specs.declared.declaration.TypeAlias.{TypeAlias}
 use Rattle.wesl_tree_syntax.specs.declared.declaration.Struct.{Struct}
-use Rattle.wesl_scope_open.proofs.Forests.{is_ident, shape_in, allows, calm, calm_tree, no_ident_there, is_calm, and_left, and_right}
+use Rattle.wesl_scope_open.proofs.Forests.{is_ident, shape_in, allows, calm, calm_tree, no_ident_there, is_calm}
+use Rattle.wesl_tree_base.proofs.Truth.{and_right, and_left}
 use Rattle.wesl_scope_open.proofs.Lively.{Lively, none, calm_one, at_node, other_node, a_declaration, a_body, one_before, two_before, a_loop, a_for}
 use Rattle.wesl_scope_open.proofs.Functions.{Parameters, no_parameter, one_parameter}
 use Rattle.wesl_scope_open.proofs.Units.{FunctionFields, fields_of, is_airy, airy, Globals, no_more, a_function, another}
+use Rattle.wesl_tree_syntax.proofs.Seen.{expression_seen, call_seen, argument_seen, type_seen, content_seen, entry_seen}
+use Rattle.wesl_tree_syntax.proofs.Held.{statement_open, compound_open, continuing_open, else_open, else_if_open, if_open, clause_open, content_open, entry_open}
 
 abbrev IsStill : Tree → Type 0
 IsStill t = calm_tree t.label t.children ≡ true
@@ -75,18 +78,6 @@ Still_type = (t : TypeExpression) × IsStill (type_view t)
 literal_still : (l : LiteralValue) → IsStill (literal_tree l)
 literal_still (literals.Bool b) = refl
 literal_still (literals.Text s) = refl
-
-abbrev pub expression_seen : Expression-F Expression FunctionCall TemplateArg TypeExpression → Tree
-expression_seen x = expression_step (map-Expression Expression FunctionCall TemplateArg TypeExpression Tree Tree Tree Tree expression_view call_view argument_view type_view x)
-
-abbrev pub call_seen : FunctionCall-F Expression FunctionCall TemplateArg TypeExpression → Tree
-call_seen x = call_step (map-FunctionCall Expression FunctionCall TemplateArg TypeExpression Tree Tree Tree Tree expression_view call_view argument_view type_view x)
-
-abbrev pub argument_seen : TemplateArg-F Expression FunctionCall TemplateArg TypeExpression → Tree
-argument_seen x = argument_step (map-TemplateArg Expression FunctionCall TemplateArg TypeExpression Tree Tree Tree Tree expression_view call_view argument_view type_view x)
-
-abbrev pub type_seen : TypeExpression-F Expression FunctionCall TemplateArg TypeExpression → Tree
-type_seen x = type_step (map-TypeExpression Expression FunctionCall TemplateArg TypeExpression Tree Tree Tree Tree expression_view call_view argument_view type_view x)
 
 expression_each : (y : Expression-F Still_expression Still_call Still_argument Still_type)
     → IsStill (expression_seen (map-Expression Still_expression Still_call Still_argument Still_type Expression FunctionCall TemplateArg TypeExpression (λ e. e.0) (λ e. e.0) (λ e. e.0) (λ e. e.0) y))
@@ -270,44 +261,23 @@ OfSwitchClause = (x : SwitchClause) × IsLively (clause_view x)
 abbrev pub statement_seen : Statement-F Statement CompoundStatement ContinuingStatement ElseClause ElseIfClause IfClause SwitchClause → Tree
 statement_seen x = statement_step (map-Statement Statement CompoundStatement ContinuingStatement ElseClause ElseIfClause IfClause SwitchClause Tree Tree Tree Tree Tree Tree Tree statement_view compound_view continuing_view else_view else_if_view if_view clause_view x)
 
-abbrev statement_open : Statement-F OfStatement OfCompoundStatement OfContinuingStatement OfElseClause OfElseIfClause OfIfClause OfSwitchClause → Statement-F Statement CompoundStatement ContinuingStatement ElseClause ElseIfClause IfClause SwitchClause
-statement_open y = map-Statement OfStatement OfCompoundStatement OfContinuingStatement OfElseClause OfElseIfClause OfIfClause OfSwitchClause Statement CompoundStatement ContinuingStatement ElseClause ElseIfClause IfClause SwitchClause (λ e. e.0) (λ e. e.0) (λ e. e.0) (λ e. e.0) (λ e. e.0) (λ e. e.0) (λ e. e.0) y
-
 abbrev pub compound_seen : CompoundStatement-F Statement CompoundStatement ContinuingStatement ElseClause ElseIfClause IfClause SwitchClause → Tree
 compound_seen x = compound_step (map-CompoundStatement Statement CompoundStatement ContinuingStatement ElseClause ElseIfClause IfClause SwitchClause Tree Tree Tree Tree Tree Tree Tree statement_view compound_view continuing_view else_view else_if_view if_view clause_view x)
-
-abbrev compound_open : CompoundStatement-F OfStatement OfCompoundStatement OfContinuingStatement OfElseClause OfElseIfClause OfIfClause OfSwitchClause → CompoundStatement-F Statement CompoundStatement ContinuingStatement ElseClause ElseIfClause IfClause SwitchClause
-compound_open y = map-CompoundStatement OfStatement OfCompoundStatement OfContinuingStatement OfElseClause OfElseIfClause OfIfClause OfSwitchClause Statement CompoundStatement ContinuingStatement ElseClause ElseIfClause IfClause SwitchClause (λ e. e.0) (λ e. e.0) (λ e. e.0) (λ e. e.0) (λ e. e.0) (λ e. e.0) (λ e. e.0) y
 
 abbrev pub continuing_seen : ContinuingStatement-F Statement CompoundStatement ContinuingStatement ElseClause ElseIfClause IfClause SwitchClause → Tree
 continuing_seen x = continuing_step (map-ContinuingStatement Statement CompoundStatement ContinuingStatement ElseClause ElseIfClause IfClause SwitchClause Tree Tree Tree Tree Tree Tree Tree statement_view compound_view continuing_view else_view else_if_view if_view clause_view x)
 
-abbrev continuing_open : ContinuingStatement-F OfStatement OfCompoundStatement OfContinuingStatement OfElseClause OfElseIfClause OfIfClause OfSwitchClause → ContinuingStatement-F Statement CompoundStatement ContinuingStatement ElseClause ElseIfClause IfClause SwitchClause
-continuing_open y = map-ContinuingStatement OfStatement OfCompoundStatement OfContinuingStatement OfElseClause OfElseIfClause OfIfClause OfSwitchClause Statement CompoundStatement ContinuingStatement ElseClause ElseIfClause IfClause SwitchClause (λ e. e.0) (λ e. e.0) (λ e. e.0) (λ e. e.0) (λ e. e.0) (λ e. e.0) (λ e. e.0) y
-
 abbrev pub else_seen : ElseClause-F Statement CompoundStatement ContinuingStatement ElseClause ElseIfClause IfClause SwitchClause → Tree
 else_seen x = else_step (map-ElseClause Statement CompoundStatement ContinuingStatement ElseClause ElseIfClause IfClause SwitchClause Tree Tree Tree Tree Tree Tree Tree statement_view compound_view continuing_view else_view else_if_view if_view clause_view x)
-
-abbrev else_open : ElseClause-F OfStatement OfCompoundStatement OfContinuingStatement OfElseClause OfElseIfClause OfIfClause OfSwitchClause → ElseClause-F Statement CompoundStatement ContinuingStatement ElseClause ElseIfClause IfClause SwitchClause
-else_open y = map-ElseClause OfStatement OfCompoundStatement OfContinuingStatement OfElseClause OfElseIfClause OfIfClause OfSwitchClause Statement CompoundStatement ContinuingStatement ElseClause ElseIfClause IfClause SwitchClause (λ e. e.0) (λ e. e.0) (λ e. e.0) (λ e. e.0) (λ e. e.0) (λ e. e.0) (λ e. e.0) y
 
 abbrev pub else_if_seen : ElseIfClause-F Statement CompoundStatement ContinuingStatement ElseClause ElseIfClause IfClause SwitchClause → Tree
 else_if_seen x = else_if_step (map-ElseIfClause Statement CompoundStatement ContinuingStatement ElseClause ElseIfClause IfClause SwitchClause Tree Tree Tree Tree Tree Tree Tree statement_view compound_view continuing_view else_view else_if_view if_view clause_view x)
 
-abbrev else_if_open : ElseIfClause-F OfStatement OfCompoundStatement OfContinuingStatement OfElseClause OfElseIfClause OfIfClause OfSwitchClause → ElseIfClause-F Statement CompoundStatement ContinuingStatement ElseClause ElseIfClause IfClause SwitchClause
-else_if_open y = map-ElseIfClause OfStatement OfCompoundStatement OfContinuingStatement OfElseClause OfElseIfClause OfIfClause OfSwitchClause Statement CompoundStatement ContinuingStatement ElseClause ElseIfClause IfClause SwitchClause (λ e. e.0) (λ e. e.0) (λ e. e.0) (λ e. e.0) (λ e. e.0) (λ e. e.0) (λ e. e.0) y
-
 abbrev pub if_seen : IfClause-F Statement CompoundStatement ContinuingStatement ElseClause ElseIfClause IfClause SwitchClause → Tree
 if_seen x = if_step (map-IfClause Statement CompoundStatement ContinuingStatement ElseClause ElseIfClause IfClause SwitchClause Tree Tree Tree Tree Tree Tree Tree statement_view compound_view continuing_view else_view else_if_view if_view clause_view x)
 
-abbrev if_open : IfClause-F OfStatement OfCompoundStatement OfContinuingStatement OfElseClause OfElseIfClause OfIfClause OfSwitchClause → IfClause-F Statement CompoundStatement ContinuingStatement ElseClause ElseIfClause IfClause SwitchClause
-if_open y = map-IfClause OfStatement OfCompoundStatement OfContinuingStatement OfElseClause OfElseIfClause OfIfClause OfSwitchClause Statement CompoundStatement ContinuingStatement ElseClause ElseIfClause IfClause SwitchClause (λ e. e.0) (λ e. e.0) (λ e. e.0) (λ e. e.0) (λ e. e.0) (λ e. e.0) (λ e. e.0) y
-
 abbrev pub clause_seen : SwitchClause-F Statement CompoundStatement ContinuingStatement ElseClause ElseIfClause IfClause SwitchClause → Tree
 clause_seen x = clause_step (map-SwitchClause Statement CompoundStatement ContinuingStatement ElseClause ElseIfClause IfClause SwitchClause Tree Tree Tree Tree Tree Tree Tree statement_view compound_view continuing_view else_view else_if_view if_view clause_view x)
-
-abbrev clause_open : SwitchClause-F OfStatement OfCompoundStatement OfContinuingStatement OfElseClause OfElseIfClause OfIfClause OfSwitchClause → SwitchClause-F Statement CompoundStatement ContinuingStatement ElseClause ElseIfClause IfClause SwitchClause
-clause_open y = map-SwitchClause OfStatement OfCompoundStatement OfContinuingStatement OfElseClause OfElseIfClause OfIfClause OfSwitchClause Statement CompoundStatement ContinuingStatement ElseClause ElseIfClause IfClause SwitchClause (λ e. e.0) (λ e. e.0) (λ e. e.0) (λ e. e.0) (λ e. e.0) (λ e. e.0) (λ e. e.0) y
 
 elifs_each : (xs : List OfElseIfClause) → Lively (forest_of (map (λ t. t) (map else_if_view (map (λ a. a.0) xs))))
 elifs_each [] = none
@@ -334,7 +304,7 @@ break_no_ident : (o : Option BreakIfStatement) → is_ident (optional break_if_v
 break_no_ident None = refl
 break_no_ident (Some b) = refl
 
-statement_each : (y : Statement-F OfStatement OfCompoundStatement OfContinuingStatement OfElseClause OfElseIfClause OfIfClause OfSwitchClause) → IsLively (statement_seen (statement_open y))
+statement_each : (y : Statement-F OfStatement OfCompoundStatement OfContinuingStatement OfElseClause OfElseIfClause OfIfClause OfSwitchClause) → IsLively (statement_seen (statement_open IsLively IsBody y))
 statement_each Statement-F.Void = λ o rest. calm_one refl rest
 statement_each (Statement-F.Compound b) = λ o rest. with_body b (λ t. Lively (tree (kind compound_statement) (before t end) o)) (λ d ss hd hs. a_body refl hd hs rest)
 statement_each (Statement-F.Assignment a p l r) = λ o rest. calm_one (rw (attributes_calm a.items, expression_calm l.node, expression_calm r.node) refl) rest
@@ -370,26 +340,26 @@ statement_each (Statement-F.FunctionCall a c) = λ o rest. calm_one (rw (attribu
 statement_each (Statement-F.ConstAssert c) = still_lively (assert_view c) (assert_still c)
 statement_each (Statement-F.Declaration d) = declaration_lively d
 
-compound_each : (y : CompoundStatement-F OfStatement OfCompoundStatement OfContinuingStatement OfElseClause OfElseIfClause OfIfClause OfSwitchClause) → IsBody (compound_seen (compound_open y))
+compound_each : (y : CompoundStatement-F OfStatement OfCompoundStatement OfContinuingStatement OfElseClause OfElseIfClause OfIfClause OfSwitchClause) → IsBody (compound_seen (compound_open IsLively IsBody y))
 compound_each y = record { attached_to = _; inside = _; same = refl; is_attached = attributes_calm y.attributes.items; is_lively = statements_each y.statements.items }
 
-continuing_each : (y : ContinuingStatement-F OfStatement OfCompoundStatement OfContinuingStatement OfElseClause OfElseIfClause OfIfClause OfSwitchClause) → IsLively (continuing_seen (continuing_open y))
+continuing_each : (y : ContinuingStatement-F OfStatement OfCompoundStatement OfContinuingStatement OfElseClause OfElseIfClause OfIfClause OfSwitchClause) → IsLively (continuing_seen (continuing_open IsLively IsBody y))
 continuing_each y = λ o rest.
     with_body y.body (λ t. Lively (tree (kind continuing) (before (attributes_tree y.attributes) (before t (before (optional break_if_view y.break_if) end))) o))
     (λ d ss hd hs. a_loop refl (attached y.attributes) hd hs (break_no_ident y.break_if) (calm_one (break_there y.break_if) none) rest)
 
-else_each : (y : ElseClause-F OfStatement OfCompoundStatement OfContinuingStatement OfElseClause OfElseIfClause OfIfClause OfSwitchClause) → IsLively (else_seen (else_open y))
+else_each : (y : ElseClause-F OfStatement OfCompoundStatement OfContinuingStatement OfElseClause OfElseIfClause OfIfClause OfSwitchClause) → IsLively (else_seen (else_open IsLively IsBody y))
 else_each y = λ o rest. with_body y.body (λ t. Lively (tree (kind else_clause) (before (attributes_tree y.attributes) (before t end)) o)) (λ d ss hd hs. one_before refl (attached y.attributes) hd hs rest)
 
-else_if_each : (y : ElseIfClause-F OfStatement OfCompoundStatement OfContinuingStatement OfElseClause OfElseIfClause OfIfClause OfSwitchClause) → IsLively (else_if_seen (else_if_open y))
+else_if_each : (y : ElseIfClause-F OfStatement OfCompoundStatement OfContinuingStatement OfElseClause OfElseIfClause OfIfClause OfSwitchClause) → IsLively (else_if_seen (else_if_open IsLively IsBody y))
 else_if_each y = λ o rest.
     with_body y.body (λ t. Lively (tree (kind else_if_clause) (before (attributes_tree y.attributes) (before (expression_tree y.expression) (before t end))) o))
     (λ d ss hd hs. two_before refl (attached y.attributes) (rw (expression_calm y.expression.node) refl) hd hs rest)
 
-if_each : (y : IfClause-F OfStatement OfCompoundStatement OfContinuingStatement OfElseClause OfElseIfClause OfIfClause OfSwitchClause) → IsLively (if_seen (if_open y))
+if_each : (y : IfClause-F OfStatement OfCompoundStatement OfContinuingStatement OfElseClause OfElseIfClause OfIfClause OfSwitchClause) → IsLively (if_seen (if_open IsLively IsBody y))
 if_each y = λ o rest. with_body y.body (λ t. Lively (tree (kind if_clause) (before (expression_tree y.expression) (before t end)) o)) (λ d ss hd hs. one_before refl (rw (expression_calm y.expression.node) refl) hd hs rest)
 
-clause_each : (y : SwitchClause-F OfStatement OfCompoundStatement OfContinuingStatement OfElseClause OfElseIfClause OfIfClause OfSwitchClause) → IsLively (clause_seen (clause_open y))
+clause_each : (y : SwitchClause-F OfStatement OfCompoundStatement OfContinuingStatement OfElseClause OfElseIfClause OfIfClause OfSwitchClause) → IsLively (clause_seen (clause_open IsLively IsBody y))
 clause_each y = λ o rest.
     with_body y.body (λ t. Lively (tree (kind switch_clause) (before (attributes_tree y.attributes) (before (listed selector_view list y.case_selectors) (before t end))) o))
     (λ d ss hd hs. two_before refl (attached y.attributes) (selectors_calm y.case_selectors.items) hd hs rest)
@@ -459,18 +429,6 @@ OfContent = (c : ImportContent) × IsAiry (content_view c)
 abbrev OfEntry : Type 0
 OfEntry = (i : Import) × IsAiry (entry_view i)
 
-abbrev pub content_seen : ImportContent-F ImportContent Import → Tree
-content_seen x = content_step (map-ImportContent ImportContent Import Tree Tree content_view entry_view x)
-
-abbrev content_open : ImportContent-F OfContent OfEntry → ImportContent-F ImportContent Import
-content_open y = map-ImportContent OfContent OfEntry ImportContent Import (λ e. e.0) (λ e. e.0) y
-
-abbrev pub entry_seen : Import-F ImportContent Import → Tree
-entry_seen x = entry_step (map-Import ImportContent Import Tree Tree content_view entry_view x)
-
-abbrev entry_open : Import-F OfContent OfEntry → Import-F ImportContent Import
-entry_open y = map-Import OfContent OfEntry ImportContent Import (λ e. e.0) (λ e. e.0) y
-
 item_airy : (i : ImportItem) → IsAiry (item_view i)
 item_airy i = elim i.rename as (λ o. IsAiry (elim o as (λ _. Tree) [
   | None ↦ branch import_item (ident_tree binder i.ident ∷ leaf (kind absent) ∷ [])
@@ -484,11 +442,11 @@ entries_airy : (xs : List OfEntry) → airy (forest_of (map (λ t. t) (map entry
 entries_airy [] = refl
 entries_airy (x ∷ xs) = rw (x.1, entries_airy xs) refl
 
-content_each : (y : ImportContent-F OfContent OfEntry) → IsAiry (content_seen (content_open y))
+content_each : (y : ImportContent-F OfContent OfEntry) → IsAiry (content_seen (content_open IsAiry IsAiry y))
 content_each (ImportContent-F.Item i) = item_airy i
 content_each (ImportContent-F.Collection is) = rw (entries_airy is.items) refl
 
-entry_each : (y : Import-F OfContent OfEntry) → IsAiry (entry_seen (entry_open y))
+entry_each : (y : Import-F OfContent OfEntry) → IsAiry (entry_seen (entry_open IsAiry IsAiry y))
 entry_each y = rw y.content.1 refl
 
 content_airy : (c : ImportContent) → IsAiry (content_view c)

@@ -9,7 +9,8 @@ use Rattle.wesl_scope_open.proofs.Runs.{append_again, Found}
 use Rattle.wesl_scope_open.proofs.Good.{Outwards, outwards_later, good_then}
 use Rattle.wesl_scope_open.proofs.Still.{by_numbers, IsCalm, still_good}
 use Rattle.wesl_scope_open.proofs.Around.{good_as, good_lower, around_same}
-use Rattle.wesl_scope_open.proofs.Forests.{is_ident, shape_in, Seen, a_binder, a_reference, a_word, no_ident, seen, level_by, count_unfolds, blocks_unfold, occurrences_unfold, events_unfold, calm, calm_tree, no_ident_there, and_left, and_right, simple_node, simple_level, anything, reads_any, met_one, no_end, referring_calm, calm_still_in, calm_still, calm_tree_still}
+use Rattle.wesl_scope_open.proofs.Forests.{is_ident, shape_in, Seen, a_binder, a_reference, a_word, no_ident, seen, level_by, count_unfolds, blocks_unfold, occurrences_unfold, events_unfold, calm, calm_tree, no_ident_there, simple_node, simple_level, anything, reads_any, met_one, no_end, referring_calm, calm_still_in, calm_still, calm_tree_still}
+use Rattle.wesl_tree_base.proofs.Truth.{and_right, and_left}
 use Rattle.wesl_scope_open.proofs.Lively.{stand, round_in, bodied, body_fields, body_within, Lively, lively_good, tree_events, tree_found}
 use Rattle.wesl_scope_open.proofs.Functions.{found_in, header_then, header_still, header_name, Parameters, parameters_header}
 use Rattle.wesl_scope_open.proofs.Modules.{Outer, outer_then, outer_as, outer_wider, outer_none, outer_still, function_outer}

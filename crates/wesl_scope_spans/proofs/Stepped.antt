@@ -1,14 +1,12 @@
 -- A walk over a list, by what it has still to go over.
-use Rattle.std.proofs.Common.{◌≡◌, ℕ, ◌+◌, ◌<◌, ◌≤◌, List, length, get_or, map, drop, refl, sym, subst, add-one, drop-cons}
+use Rattle.std.proofs.Common.{◌≡◌, ℕ, ◌+◌, ◌<◌, ◌≤◌, List, length, get_or, map, drop, refl, sym, subst}
 use Rattle.std.proofs.lemmas.List.{drop_all}
 use Rattle.wesl_tree_base.specs.declared.span.Span.{Span}
-use Rattle.wesl_tree_syntax.specs.Tree.{Tree, end, before, forest_of}
+use Rattle.wesl_tree_syntax.specs.Tree.{Tree, end, forest_of}
 use Rattle.wesl_scope_spans.specs.Adds.{Adds, AddsAll}
 use Rattle.wesl_scope_spans.specs.declared.places.Places.{Places}
 use Rattle.wesl_scope_spans.proofs.Steps.{beside, none}
-
-walked_first : {X : Type 0} (look : X → Tree) (xs : List X) (i : ℕ) (x : X) → i < length xs → x ≡ get_or xs i x → forest_of (map look (drop i xs)) ≡ before (look x) (forest_of (map look (drop (i + 1) xs)))
-walked_first look xs i x h is = rw (drop-cons xs i x h, ← is, add-one i) refl
+use Rattle.wesl_tree_syntax.proofs.Forests.{walked_first}
 
 -- a list, of which some were walked over: what the others add completes what all add
 module _ {X : Type 0} (look : X → Tree) where

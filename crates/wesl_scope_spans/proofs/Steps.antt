@@ -8,14 +8,10 @@ use Rattle.wesl_tree_syntax.specs.declared.span.Spanned.{Spanned}
 use Rattle.wesl_scope_spans.specs.Spans.{from_to, located_in, spans_in}
 use Rattle.wesl_scope_spans.specs.Adds.{Adds, AddsAll, Gains}
 use Rattle.wesl_scope_spans.specs.declared.places.Places.{Places}
+use Rattle.wesl_tree_syntax.proofs.Forests.{joined}
 
 abbrev span_of : ℕ × Span → Span
 span_of x = x.1
-
--- trees side by side, and others after them
-abbrev pub joined : Forest → Forest → Forest
-joined end g = g
-joined (tree l children others) g = tree l children (joined others g)
 
 after : (xs ys zs : List (ℕ × Span)) (more : List Span) → map span_of zs ≡ map span_of ys ++ more → map span_of (xs ++ zs) ≡ map span_of (xs ++ ys) ++ more
 after xs ys zs more h =

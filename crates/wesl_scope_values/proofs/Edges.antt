@@ -41,12 +41,6 @@ inside [] a b c = absurd (contains_none b c)
 inside (v ∷ graph) zero b c = omega arith
 inside (v ∷ graph) (suc a) b c = let l = inside graph a b c in omega (arith, l)
 
--- the edges of a node, as the code keeps them
-pub items_at : (graph : List (Vec ℕ Global)) (a : ℕ) (v : Vec ℕ Global) → a < length graph → v ≡ get_or graph a v → v.items ≡ edges_at (graph_view graph) a
-items_at [] a v h e = absurd (omega (arith, h))
-items_at (w ∷ graph) zero v h e = ap (λ x. x.items) e
-items_at (w ∷ graph) (suc a) v h e = items_at graph a v (omega (arith, h)) e
-
 pub adds_none : (to : ℕ) (g : Graph) → AddsFromEach [] to g g
 adds_none to g a b = (λ l. inl l, by)
   where

@@ -13,10 +13,10 @@ use Rattle.wesl_scope_values.specs.Walks.{cleared, Walked, AreHandedOn, IsLeastB
 use Rattle.wesl_scope_values.proofs.Edges.{contains_none, below_next, inside}
 use Rattle.wesl_scope_values.proofs.Walked.{clears, whole as met_whole}
 
-no : {P : Type 0} → false ≡ true → P
+pub no : {P : Type 0} → false ≡ true → P
 no e = absurd (let f : false ≡ true = e in cc)
 
-some_not_none : {P : Type 0} (o : Option ℕ) (v : ℕ) → o ≡ Some v → o ≡ None → P
+pub some_not_none : {P X : Type 0} (o : Option X) (v : X) → o ≡ Some v → o ≡ None → P
 some_not_none o v e f = absurd (let g : Some v ≡ None = sym e ∙ f in cc)
 
 -- ---- all values

@@ -6,7 +6,7 @@ use Rattle.std.proofs.Math.ListN.{get_or-append}
 use Rattle.std.proofs.lemmas.List.Elements.{Contains-append_left, Contains-push, Contains-push_cases, Contains-get_or}
 use Rattle.wesl_scope_graph.specs.Graphs.{Graph, edges_at, Leads, IsClosed}
 use Rattle.wesl_scope_graph.specs.Marks.{mark_at, unmarked}
-use Rattle.wesl_scope_graph.proofs.Meeting.{one_fewer}
+use Rattle.wesl_scope_graph.proofs.Meeting.{one_fewer, length_set}
 use Rattle.wesl_scope_values.specs.Values.{ReachedFrom, itself, onward, ReachedFromOne}
 use Rattle.wesl_scope_values.specs.Walks.{Visits, visits, entered, all_entered, cleared, IsClear, AreClosed, Walked}
 use Rattle.wesl_scope_values.proofs.Edges.{contains_none, contains_here, contains_later, contains_cases}
@@ -15,11 +15,6 @@ pub set_outside : (ms : List Bool) (n : ℕ) (b : Bool) → length ms ≤ n → 
 set_outside [] n b h = refl
 set_outside (m ∷ ms) zero b h = absurd (omega (arith, h))
 set_outside (m ∷ ms) (suc n) b h = ap (λ xs. m ∷ xs) (set_outside ms n b (omega (arith, h)))
-
-pub length_set : (ms : List Bool) (n : ℕ) (b : Bool) → length (set ms n b) ≡ length ms
-length_set [] n b = refl
-length_set (m ∷ ms) zero b = refl
-length_set (m ∷ ms) (suc n) b = ap suc (length_set ms n b)
 
 -- a mark that is set after one more was
 pub set_before : (ms : List Bool) (n m : ℕ) → mark_at (set ms n true) m ≡ true → (mark_at ms m ≡ true) ⊎ (n ≡ m)

@@ -15,7 +15,7 @@ use Rattle.wesl_tree_syntax.specs.declared.expression.TypeExpression.{TypeExpres
 use Rattle.wesl_tree_syntax.specs.declared.expression.Expression.TheOpen.{Expression-F, FunctionCall-F, TemplateArg-F}
 use Rattle.wesl_tree_syntax.specs.declared.expression.Expression.TheFolds.{ind-Expression, ind-TypeExpression, ind-FunctionCall, fold-roll-Expression, fold-roll-FunctionCall, fold-roll-TemplateArg, fold-roll-TypeExpression}
 use Rattle.wesl_scope_words.proofs.Quiet.{is_quiet, IsQuiet}
-use Rattle.wesl_scope_open.proofs.Typed.{argument_seen, call_seen, expression_seen, type_seen}
+use Rattle.wesl_tree_syntax.proofs.Seen.{type_seen, argument_seen, call_seen, expression_seen}
 
 abbrev Quiet_expression : Type 0
 Quiet_expression = (e : Expression) × IsQuiet (expression_view e)

@@ -1,5 +1,5 @@
 -- How what is said in the parts of a forest makes up what is said in it.
-use Rattle.std.proofs.Common.{◌≡◌, ℕ, ◌+◌, ◌<◌, ◌≤◌, true, List, [], ◌∷◌, ◌++◌, length, get_or, map, drop, refl, sym, ap, ◌∙◌, subst, add-one, drop-cons, append_assoc, append-nil}
+use Rattle.std.proofs.Common.{◌≡◌, ℕ, ◌+◌, ◌<◌, ◌≤◌, true, List, [], ◌∷◌, ◌++◌, length, get_or, map, drop, refl, sym, ap, ◌∙◌, subst, append_assoc, append-nil}
 use Rattle.std.proofs.lemmas.List.{drop_all}
 use Rattle.wesl_tree_names.specs.Path.{Text}
 use Rattle.wesl_tree_syntax.specs.Tree.{Label, Forest, Tree, end, tree, before, forest_of, ident, binder}
@@ -7,11 +7,7 @@ use Rattle.wesl_scope_words.specs.Said.{words_of, said}
 use Rattle.wesl_scope_words.specs.Adds.{Adds, Notes, noted}
 use Rattle.wesl_scope_words.specs.declared.sayings.Sayings.{Sayings}
 use Rattle.wesl_scope_words.proofs.Quiet.{is_quiet, IsQuiet, nothing_said}
-
--- trees side by side, and others after them
-abbrev pub joined : Forest → Forest → Forest
-joined end g = g
-joined (tree l children others) g = tree l children (joined others g)
+use Rattle.wesl_tree_syntax.proofs.Forests.{joined, walked_first}
 
 pub said_joined : (ws : List Text) (f g : Forest) → said ws (joined f g) ≡ said ws f ++ said ws g
 said_joined ws end g = refl
@@ -21,9 +17,6 @@ said_joined ws (tree l children others) g = by l (said_joined ws others g)
     by (ident binder x) more = ap (λ z. ws ∷ z) more
     by (ident r x) more = more
     by l more = ap (λ z. said (words_of l children) children ++ z) more ∙ sym (append_assoc (said (words_of l children) children) (said ws others) (said ws g))
-
-walked_first : {X : Type 0} (look : X → Tree) (xs : List X) (i : ℕ) (x : X) → i < length xs → x ≡ get_or xs i x → forest_of (map look (drop i xs)) ≡ before (look x) (forest_of (map look (drop (i + 1) xs)))
-walked_first look xs i x h is = rw (drop-cons xs i x h, ← is, add-one i) refl
 
 -- where nothing is said
 pub nothing : {a : Sayings} (f : Forest) → said [] f ≡ [] → Adds a f a

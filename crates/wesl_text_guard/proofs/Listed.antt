@@ -1,5 +1,5 @@
 -- A list of nodes that get parentheses one after the other.
-use Rattle.std.proofs.Common.{◌≡◌, ◌≢◌, get_or-set_other, length-set, Bool, true, false, ℕ, zero, suc, ◌+◌, ◌<◌, ◌≤◌, List, [], ◌∷◌, ◌++◌, length, get_or, set, map, drop, take, refl, sym, ◌∙◌, ap, arith}
+use Rattle.std.proofs.Common.{◌≡◌, ◌≢◌, get_or-set_other, length-set, Bool, true, false, ℕ, zero, suc, ◌+◌, ◌<◌, ◌≤◌, List, [], ◌∷◌, length, get_or, set, map, drop, take, refl, sym, ◌∙◌, ap, arith}
 use Rattle.std.proofs.lemmas.List.{drop-set-lt, drop_more, map-append, take_all, take_more_set, with_items_is}
 use Rattle.std.specs.Prelude.{Vec}
 use Rattle.std.specs.Vec.{with_items}
@@ -9,12 +9,7 @@ use Rattle.wesl_tree_syntax.specs.View.{listed}
 use Rattle.wesl_text_guard.specs.Guards.{Guarded, as_it_is, as_item}
 use Rattle.wesl_text_guard.specs.Parentheses.{each_fits, fitted, stands_listed, with_parentheses, tree_with_parentheses}
 use Rattle.wesl_text_guard.specs.declared.guard.Guard.{Guard}
-use Rattle.wesl_tree_copies.proofs.Listed.{drop_past, joined}
-
--- trees, and a forest after them
-joined_more : (ts : List Tree) (t : Tree) (f : Forest) → joined (ts ++ t ∷ []) f ≡ joined ts (before t f)
-joined_more [] t f = refl
-joined_more (u ∷ ts) t f = ap (before u) (joined_more ts t f)
+use Rattle.wesl_tree_copies.proofs.Listed.{drop_past, joined, joined_more}
 
 joined_all : (ts : List Tree) → joined ts end ≡ forest_of ts
 joined_all [] = refl

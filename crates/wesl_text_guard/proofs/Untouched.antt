@@ -5,14 +5,16 @@ use Rattle.wesl_tree_syntax.specs.Nodes.{is_expression}
 use Rattle.wesl_tree_syntax.specs.View.{content_step, content_view, entry_step, entry_view, item_view, optional, path_tree}
 use Rattle.wesl_tree_names.specs.declared.path.ModulePath.{ModulePath}
 use Rattle.wesl_tree_names.specs.declared.names.Ident.{Ident}
-use Rattle.wesl_tree_syntax.specs.declared.import.ImportContent.{ImportContent, map-ImportContent}
-use Rattle.wesl_tree_syntax.specs.declared.import.Import.{Import, map-Import}
+use Rattle.wesl_tree_syntax.specs.declared.import.ImportContent.{ImportContent}
+use Rattle.wesl_tree_syntax.specs.declared.import.Import.{Import}
 use Rattle.wesl_tree_syntax.specs.declared.import.ImportContent.TheOpen.{ImportContent-F, Import-F}
 use Rattle.wesl_tree_syntax.specs.declared.import.ImportContent.TheFolds.{ind-ImportContent, fold-roll-ImportContent, fold-roll-Import}
 use Rattle.wesl_text_guard.specs.Guards.{Guarded, as_it_is}
 use Rattle.wesl_text_guard.specs.Parentheses.{each_fits, enclosed, first_label, fit, stands_listed, with_parentheses, tree_with_parentheses}
 use Rattle.wesl_text_guard.specs.declared.guard.Guard.{Guard}
 use Rattle.wesl_text_guard.proofs.Parts.{as_such}
+use Rattle.wesl_tree_syntax.proofs.Seen.{content_seen, entry_seen}
+use Rattle.wesl_tree_syntax.proofs.Held.{content_open, entry_open}
 
 abbrev IsPlain : Tree → Type 0
 IsPlain t = (b : Bool) → tree_with_parentheses b t ≡ t
@@ -26,18 +28,6 @@ OfContent = (x : ImportContent) × IsPlain (content_view x)
 
 abbrev OfEntry : Type 0
 OfEntry = (x : Import) × IsEntry (entry_view x)
-
-abbrev content_seen : ImportContent-F ImportContent Import → Tree
-content_seen x = content_step (map-ImportContent ImportContent Import Tree Tree content_view entry_view x)
-
-abbrev entry_seen : Import-F ImportContent Import → Tree
-entry_seen x = entry_step (map-Import ImportContent Import Tree Tree content_view entry_view x)
-
-abbrev content_open : ImportContent-F OfContent OfEntry → ImportContent-F ImportContent Import
-content_open y = map-ImportContent OfContent OfEntry ImportContent Import (λ e. e.0) (λ e. e.0) y
-
-abbrev entry_open : Import-F OfContent OfEntry → Import-F ImportContent Import
-entry_open y = map-Import OfContent OfEntry ImportContent Import (λ e. e.0) (λ e. e.0) y
 
 item_plain : (i : Ident) (o : Option Ident) → IsPlain (item_view (record { ident = i; rename = o }))
 item_plain i None b = refl
@@ -55,11 +45,11 @@ entries_plain b (x ∷ xs) =
     let f : Forest = forest_of (map (λ t. t) (map entry_view (map (λ a. a.0) xs))) in
     ap (λ t. before t (each_fits (stands_listed b) (with_parentheses b f))) (listed_so b (entry_view x.0) x.1) ∙ ap (before (entry_view x.0)) (entries_plain b xs)
 
-content_each : (y : ImportContent-F OfContent OfEntry) → IsPlain (content_seen (content_open y))
+content_each : (y : ImportContent-F OfContent OfEntry) → IsPlain (content_seen (content_open IsPlain IsEntry y))
 content_each (ImportContent-F.Item i) b = item_plain i.ident i.rename b
 content_each (ImportContent-F.Collection is) b = ap (λ f. record { label = kind import_collection; children = tree (kind list) f end }) (entries_plain b is.items)
 
-entry_each : (y : Import-F OfContent OfEntry) → IsEntry (entry_seen (entry_open y))
+entry_each : (y : Import-F OfContent OfEntry) → IsEntry (entry_seen (entry_open IsPlain IsEntry y))
 entry_each y = (λ b. ap (λ t. entry_step (record { path = y.path; content = t })) (y.content.1 b), refl)
 
 pub content_plain : (c : ImportContent) → IsPlain (content_view c)

@@ -1,5 +1,5 @@
 -- What becomes of whole units.
-use Rattle.std.proofs.Common.{◌≡◌, ℕ, Bool, true, false, ◌&&◌, List, length, Option, None, Some, IsSome, MatchOption, Result, Ok, Err, refl, sym as turned, ap, ◌∙◌, subst}
+use Rattle.std.proofs.Common.{◌≡◌, ℕ, Bool, true, false, ◌&&◌, List, length, Result, Ok, Err, sym as turned, ap, ◌∙◌}
 use Rattle.std.specs.Prelude.{OnOk}
 use Rattle.wesl_tree_syntax.specs.Tree.{Tree, identifiers, tree_below}
 use Rattle.wesl_tree_syntax.specs.Unit.{UnitOf, UnitView, forest_of_unit, numbers, trees_of, unit_below}
@@ -56,13 +56,6 @@ pub still_below : {c : Bool} {e : Guard} (u v : UnitView) → WholeGuarded c u v
 still_below u v g h =
     ap (λ names. all_below (length names) (trees_of v)) g.names
     ∙ (turned (below_with (length u.names) (trees_of v)) ∙ (ap (all_below (length u.names)) g.only ∙ (below_with (length u.names) (trees_of u) ∙ h)))
-
-pub some_if : {X : Type 0} (r : Option X) (b : Bool) (Q : X → Type 0) → MatchOption r (b ≡ false) Q → b ≡ true → IsSome r
-some_if None b Q h e = let f : true ≡ false = turned e ∙ h in cc
-some_if (Some x) b Q h e = refl
-
-pub some_of : {X : Type 0} (r : Option X) (x : X) (P : Type 0) (Q : X → Type 0) → r ≡ Some x → MatchOption r P Q → Q x
-some_of r x P Q e h = subst (λ o. MatchOption o P Q) e h
 
 pub on_ok : {X E P Q : Type 0} (r : Result X E) → OnOk r P → (P → Q) → OnOk r Q
 on_ok (Ok x) h f = f h

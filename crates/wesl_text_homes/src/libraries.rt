@@ -93,7 +93,7 @@ impl Model for Libraries {
 }
 
 // The first chain of a name.
-#[tactic(auto, using(crate::proofs::Searches::found, crate::proofs::Searches::not_found))]
+#[tactic(auto, using(wesl_tree_base::proofs::Searches::found, wesl_tree_base::proofs::Searches::not_found))]
 pub(crate) fn chain_of<'c>(chains: &'c [Chain], name: &str) -> Option<&'c Chain>
     ensures { option_map (λ c. c.now) result ≡ chain_of name.now chains.now }
 {

@@ -14,12 +14,10 @@ use Rattle.wesl_link_assembly.specs.Pathless.{without_path, has_words, without_p
 use Rattle.wesl_text_laws.specs.Laws.{has_name, target_below, are_named}
 use Rattle.wesl_text_laws.proofs.Good.{begins_well, begins_attributes, good_label, is_good}
 use Rattle.std.proofs.lemmas.Bool.{and_from, and_parts}
+use Rattle.wesl_tree_syntax.proofs.Forests.{bare}
 
 abbrev Outline : Type 0
 Outline = ForestOf (Unit {0})
-
-abbrev bare : {I : Type 0} → LabelOf I → LabelOf (Unit {0})
-bare = respell_label (λ i. tt)
 
 abbrev label_of : Outline → LabelOf (Unit {0})
 label_of end = truth true

@@ -11,7 +11,7 @@ use Rattle.wesl_text_form.specs.Spelling.{Slots, class_at, followed, leaf_slots,
 use Rattle.wesl_text_tokens.specs.Tokens.{number, open_list, close_list}
 use Rattle.wesl_text_print.specs.Printing.{class_at_node, expression_slots, list_slots, literal_label, name_slots, only_if, path_and_name, path_slots, separate_in, slots_in}
 use Rattle.wesl_text_print.proofs.Adding.{followed_twice, none_after, nothing_before, nothing_behind, provided_shows, shows, shows_before, shows_behind}
-use Rattle.wesl_text_print.proofs.Views.{view-binary, view-call, view-component, view-indexing, view-literal, view-parenthesized, view-type, view-unary}
+use Rattle.wesl_tree_syntax.proofs.Shapes.{view-type, view-call, view-binary, view-unary, view-indexing, view-component, view-parenthesized, view-literal}
 use Rattle.wesl_tree_names.specs.Path.{Text}
 use Rattle.wesl_tree_names.specs.declared.names.Ident.{Ident}
 use Rattle.wesl_tree_names.specs.declared.path.ModulePath.{ModulePath}

@@ -57,7 +57,7 @@ impl Description {
     }
 
     /// The set of a name.
-    #[tactic(auto, using(crate::proofs::Searches::found, crate::proofs::Searches::not_found))]
+    #[tactic(auto, using(wesl_tree_base::proofs::Searches::found, wesl_tree_base::proofs::Searches::not_found))]
     pub fn set(&self, name: &str) -> Option<&FeatureSet>
         ensures { option_map (λ s. s.now) result ≡ set_of name.now self.now.sets.items }
     {

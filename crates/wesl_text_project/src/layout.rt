@@ -24,7 +24,7 @@ pub struct Layout {
 
 impl Layout {
     /// The folder of a package.
-    #[tactic(auto, using(crate::proofs::Searches::found, crate::proofs::Searches::not_found))]
+    #[tactic(auto, using(wesl_tree_base::proofs::Searches::found, wesl_tree_base::proofs::Searches::not_found))]
     pub fn package_folder(&self, name: &str) -> Option<&str>
         ensures { option_map (λ s. s.now) result ≡ folder_of name.now self.now.packages.items }
     {

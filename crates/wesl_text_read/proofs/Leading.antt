@@ -14,16 +14,13 @@ use Rattle.wesl_text_read.specs.Leads.{Begins, Builds, Keeps, Leads, Refuses, St
 use Rattle.wesl_text_read.specs.declared.reader.Fault.{Fault}
 use Rattle.wesl_text_read.specs.declared.reader.Fault.TheVariants as faults
 use Rattle.wesl_text_read.specs.declared.reader.Reader.{Reader}
+use Rattle.wesl_tree_base.proofs.Options.{cleared}
 
 pub begins_itself : (ns : List Text) → Begins ns ns
 begins_itself ns = ([], sym (append-nil ns))
 
 pub begins_further : (a b c : List Text) → Begins a b → Begins b c → Begins a c
 begins_further a b c p q = (p.0 ++ q.0, q.1 ∙ (ap (λ z. z ++ q.0) p.1 ∙ append_assoc a p.0 q.0))
-
-pub cleared : {A : Type 0} (o r : Option A) → ForSome o (λ x. r ≡ Some x) → r ≡ None → o ≡ None
-cleared None r kept h = refl
-cleared (Some x) r kept h = cc (kept x refl)
 
 later : {A : Type 0} (o r : Option A) (P Q : A → Type 0) → IfSome o P → ((x : A) → P x → r ≡ Some x → Q x) → (o ≡ None → IfSome r Q) → ForSome o (λ x. r ≡ Some x) → IfSome r Q
 later None r P Q here more none kept = none refl

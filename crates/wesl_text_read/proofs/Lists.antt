@@ -18,7 +18,8 @@ use Rattle.wesl_text_read.specs.First.{next_expression}
 use Rattle.wesl_text_read.specs.Leads.{Keeps, Leads, Reads, Refuses, Skips, ahead}
 use Rattle.wesl_text_read.specs.Levels.{inner}
 use Rattle.wesl_text_read.proofs.After.{after-same}
-use Rattle.wesl_text_read.proofs.Leading.{cleared, keeping, next, nothing_there, once_clear, seen, stay, under}
+use Rattle.wesl_text_read.proofs.Leading.{keeping, next, nothing_there, once_clear, seen, stay, under}
+use Rattle.wesl_tree_base.proofs.Options.{cleared}
 
 module _ (one : TreeReader) where
   -- what is left of a list, where it goes on and where it does not

@@ -1,5 +1,5 @@
 -- Paths, read name by name.
-use Rattle.std.proofs.Common.{◌≡◌, ◌≤◌, ◌<◌, ◌-◌, ◌+◌, ℕ, suc, List, [], ◌∷◌, ◌++◌, append_assoc, length, map, Bool, true, false, ◌&&◌, ◌||◌, if◌then◌else◌, Option, Some, None, String, Global, codes, bytes_eq, string_bytes, refl, sym, ap, ◌∙◌, subst, arith, rules, true≢false, add-one}
+use Rattle.std.proofs.Common.{◌≡◌, ◌≤◌, ◌<◌, ◌-◌, ◌+◌, ℕ, suc, List, [], ◌∷◌, ◌++◌, append_assoc, length, map, Bool, true, false, ◌&&◌, if◌then◌else◌, Option, Some, None, String, Global, codes, bytes_eq, string_bytes, refl, sym, ap, ◌∙◌, subst, arith, rules, true≢false, add-one}
 use Rattle.std.specs.Option.{option_and_then}
 use Rattle.std.proofs.lemmas.List.{append-nil, map-append}
 use denote.Enum.Bare.{same_true}
@@ -30,14 +30,8 @@ use Rattle.wesl_text_read.specs.Leads.{Keeps, Leads, Makes, Reads, ReadsLabel, R
 use Rattle.wesl_text_read.specs.declared.reader.Reader.{Reader}
 use Rattle.wesl_text_read.proofs.First.{name-free}
 use Rattle.wesl_text_read.proofs.Leading.{keeping, next, once_clear, seen, stay, under, wants_memory}
-
-or-false : (b : Bool) → b || false ≡ b
-or-false true = refl
-or-false false = refl
-
-and-false : (b : Bool) → b && false ≡ false
-and-false true = refl
-and-false false = refl
+use mathlib.Core.Bool.{and-false}
+use mathlib.Core.Bool.{or-false}
 
 pub sign-is : (s : Symbol) (t : Token) → same_token (symbol s) t ≡ true → t ≡ symbol s
 sign-is s (name t) h = cc

@@ -15,7 +15,8 @@ use Rattle.wesl_text_read.specs.First.{behind_comma, part_first, read_rule, word
 use Rattle.wesl_text_read.specs.Leads.{Keeps, Leads, Makes, ReadsLabel, ReadsText, ReadsTexts, Refuses, Skips, ahead}
 use Rattle.wesl_text_read.specs.declared.reader.Reader.{Reader}
 use Rattle.wesl_text_read.proofs.First.{no-token-behind-if, token-behind-if}
-use Rattle.wesl_text_read.proofs.Leading.{cleared, keeping, next, nothing_there, once_clear, seen, stay, under}
+use Rattle.wesl_text_read.proofs.Leading.{keeping, next, nothing_there, once_clear, seen, stay, under}
+use Rattle.wesl_tree_base.proofs.Options.{cleared}
 use Rattle.wesl_text_read.proofs.Paths.{behind_texts, sign-is, texts-more}
 
 pub comma-there : (ts : List Token) → begins_sign is.Comma ts ≡ true → behind_comma ts ≡ (true, behind_first ts)

@@ -12,7 +12,8 @@ use Rattle.wesl_text_reading.specs.Reading.{Reader as TreeReader, and_others, at
 use Rattle.wesl_text_read.specs.declared.reader.Reader.{Reader}
 use Rattle.wesl_text_read.specs.Leads.{Leads, ahead, names_of}
 use Rattle.wesl_text_read.specs.Levels.{inner}
-use Rattle.wesl_text_read.proofs.Leading.{begins_itself, cleared}
+use Rattle.wesl_text_read.proofs.Leading.{begins_itself}
+use Rattle.wesl_tree_base.proofs.Options.{cleared}
 use Rattle.wesl_text_read_ahead.specs.Ahead.{LooksBehind}
 
 -- the tokens behind attributes, by what is read of them

@@ -21,7 +21,8 @@ use Rattle.wesl_text_read.specs.Levels.{inner}
 use Rattle.wesl_text_read.specs.Parts.{row_at}
 use Rattle.wesl_text_read.proofs.After.{after-same}
 use Rattle.wesl_text_read.proofs.First.{no-token-behind}
-use Rattle.wesl_text_read.proofs.Leading.{cleared, keeping, next, nothing_there, once_clear, seen, stay, under}
+use Rattle.wesl_text_read.proofs.Leading.{keeping, next, nothing_there, once_clear, seen, stay, under}
+use Rattle.wesl_tree_base.proofs.Options.{cleared}
 use Rattle.wesl_text_read.proofs.Lists.{behind-more, behind-none, behind_trees, joined-end}
 use Rattle.wesl_text_read.proofs.WordLists.{comma-absent, comma-there}
 use Rattle.wesl_text_read_imports.specs.Closed.{closed_at, next_item}

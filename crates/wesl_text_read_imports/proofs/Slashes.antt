@@ -15,7 +15,8 @@ use Rattle.wesl_text_reading.specs.Leaves.{Read, after, are_free, free_path, pat
 use Rattle.wesl_text_read.specs.declared.reader.Reader.{Reader}
 use Rattle.wesl_text_read.specs.First.{read_steps, word_first}
 use Rattle.wesl_text_read.specs.Leads.{Keeps, Leads, Makes, ReadsLabel, ReadsText, ReadsTexts, Refuses, Skips, ahead}
-use Rattle.wesl_text_read.proofs.Leading.{cleared, keeping, next, nothing_there, once_clear, seen, under}
+use Rattle.wesl_text_read.proofs.Leading.{keeping, next, nothing_there, once_clear, seen, under}
+use Rattle.wesl_tree_base.proofs.Options.{cleared}
 use Rattle.wesl_text_read.proofs.Paths.{sign-is}
 use Rattle.wesl_text_read_imports.specs.Slashes.{begins_keyword_path, read_behind_package, read_package, read_package_name, slash_first}
 

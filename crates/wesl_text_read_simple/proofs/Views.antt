@@ -11,7 +11,8 @@ use Rattle.wesl_tree_syntax.specs.declared.expression.FunctionCall.{FunctionCall
 use Rattle.wesl_tree_syntax.specs.declared.span.Spanned.{Spanned}
 use Rattle.wesl_tree_syntax.specs.declared.statement.Statement.{the_lemmas, FunctionCall}
 use Rattle.wesl_text_reading.specs.Reading.{expression}
-use Rattle.wesl_text_read.proofs.Trees.{made_type, placed-tree}
+use Rattle.wesl_text_read.proofs.Trees.{placed-tree}
+use Rattle.wesl_tree_syntax.proofs.Built.{made_type}
 use Rattle.wesl_tree_syntax.proofs.Views.{view_name}
 
 abbrev Attributes : Type 0

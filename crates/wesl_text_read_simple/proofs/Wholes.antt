@@ -28,7 +28,8 @@ use Rattle.wesl_text_read.specs.Leads.{Leads, Reads, Refuses, Skips, ahead, name
 use Rattle.wesl_text_read.specs.Levels.{inner}
 use Rattle.wesl_text_read.specs.Parts.{row_at}
 use Rattle.wesl_text_read.proofs.First.{token-behind}
-use Rattle.wesl_text_read.proofs.Leading.{begins_further, cleared, next, nothing_there, seen, under}
+use Rattle.wesl_text_read.proofs.Leading.{begins_further, next, nothing_there, seen, under}
+use Rattle.wesl_tree_base.proofs.Options.{cleared}
 use Rattle.wesl_text_read.proofs.Rows.{RowLeads, row_ends, row_own, row_run, row_sign, row_target}
 use Rattle.wesl_text_read_ahead.proofs.Behind.{behind_them, in_fault, look, looked, nothing-expressed}
 use Rattle.wesl_text_read_ahead.specs.Ahead.{LooksBehind}

@@ -13,7 +13,8 @@ use Rattle.wesl_text_reading.specs.Reading.{Reader as TreeReader, all_of, and_ot
 use Rattle.wesl_text_read.specs.declared.reader.Reader.{Reader}
 use Rattle.wesl_text_read.specs.Leads.{Keeps, Leads, Reads, Refuses, ahead}
 use Rattle.wesl_text_read.specs.Levels.{inner}
-use Rattle.wesl_text_read.proofs.Leading.{cleared, keeping, next, nothing_there, once_clear, seen, under}
+use Rattle.wesl_text_read.proofs.Leading.{keeping, next, nothing_there, once_clear, seen, under}
+use Rattle.wesl_tree_base.proofs.Options.{cleared}
 use Rattle.wesl_text_read.proofs.Lists.{behind-more, behind-none, behind_trees, joined-end}
 use Rattle.wesl_text_read_statements.specs.Statements.{Foresees}
 

@@ -19,7 +19,8 @@ use Rattle.wesl_text_read.specs.declared.reader.Reader.{Reader}
 use Rattle.wesl_text_read.specs.Leads.{Keeps, Leads, Reads, Refuses, ahead, names_of}
 use Rattle.wesl_text_read.specs.Levels.{inner}
 use Rattle.wesl_text_read.specs.Parts.{row_at}
-use Rattle.wesl_text_read.proofs.Leading.{begins_itself, cleared, keeping, next, nothing_there, once_clear, seen, stay, under}
+use Rattle.wesl_text_read.proofs.Leading.{begins_itself, keeping, next, nothing_there, once_clear, seen, stay, under}
+use Rattle.wesl_tree_base.proofs.Options.{cleared}
 use Rattle.wesl_text_read.proofs.Lists.{behind-more, behind-none, behind_trees, joined, joined-end}
 use Rattle.wesl_text_read_ahead.specs.Ahead.{LooksBehind}
 use Rattle.wesl_text_read_ahead.proofs.Behind.{behind_them, in_fault}

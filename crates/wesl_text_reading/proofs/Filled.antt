@@ -1,5 +1,5 @@
 -- What is left of tokens behind slots, and behind slots one after the other.
-use Rattle.std.proofs.Common.{◌≡◌, suc, ◌≤◌, ◌<◌, Bool, true, false, ◌&&◌, if◌then◌else◌, List, [], ◌∷◌, ◌++◌, length, Option, Some, None, option_and_then, refl, sym, ap, ◌∙◌, le_refl, le_trans, suc-le-suc, le_of_lt, codes, rules}
+use Rattle.std.proofs.Common.{◌≡◌, suc, ◌≤◌, ◌<◌, Bool, true, false, ◌&&◌, if◌then◌else◌, List, [], ◌∷◌, ◌++◌, length, Option, Some, None, option_and_then, refl, sym, ap, ◌∙◌, le_refl, le_trans, suc-le-suc, le_of_lt, codes, rules, Result, Ok, Err}
 use Rattle.std.proofs.lemmas.Bool.{false≢true}
 use Rattle.std.proofs.lemmas.Slice.Eq.{bytes_eq-Decides}
 use denote.Enum.Bare.{same_true}
@@ -15,6 +15,12 @@ no_some x h = let z : ⊥ = cc in z
 
 pub of_some : {A : Type 0} (x y : A) → Some x ≡ Some y → x ≡ y
 of_some x y h = cc
+
+pub of_ok : {A E : Type 0} (x y : A) → (let r : Result A E = Ok x in r) ≡ Ok y → x ≡ y
+of_ok x y h = cc
+
+pub no_ok : {A E : Type 0} (e : E) (y : A) → (let r : Result A E = Err e in r) ≡ Ok y → ⊥
+no_ok e y h = let z : ⊥ = cc in z
 
 pub no_true : false ≡ true → ⊥
 no_true h = false≢true h

@@ -1,9 +1,11 @@
 -- Kinds that have one number are one.
-use Rattle.std.proofs.Common.{◌≡◌, ℕ, zero, suc, true, List, [], ◌∷◌, Some, refl, sym, ap, ◌∙◌, eqb-true}
-use Rattle.std.proofs.lemmas.Bool.{false≢true}
+use Rattle.std.proofs.Common.{◌≡◌, ℕ, zero, suc, true, List, [], ◌∷◌, Some, refl, sym, ap, ◌∙◌, eqb-true, Bool, false, not, ◌&&◌, ◌||◌, if◌then◌else◌, None}
+use Rattle.std.proofs.lemmas.Bool.{false≢true, and_parts}
 use Rattle.wesl_tree_syntax.specs.Tree.{Kind, Role, binder, reference, word, expression_node, statement_node, attribute_node, member_node, import_node, directive_node, declaration_node, literal, parenthesized, named_component, indexing, call_expression, call, type_or_identifier, type_expression, template_argument, list, present, absent, attributes, statements, clauses, members, parameters, align, binding, blend_src, builtin, const_attribute, diagnostic, group, id, interpolate, invariant_attribute, location, must_use, size, workgroup_size, vertex, fragment, compute, publish, if_attribute, elif_attribute, else_attribute, custom, void, compound_statement, compound, increment, decrement, if_statement, if_clause, else_if_clause, else_clause, switch, switch_clause, default_case, expression_case, loop, continuing, break_if, for_loop, while_loop, break, continue, return, discard, call_statement, const_assert, import_statement, import_item, import_collection, import_entry, diagnostic_directive, enable_directive, requires_directive, type_alias, struct, member, function, parameter, declaration, const_kind, override_kind, let_kind, var_kind, imports, directive_list, declarations, unit, kind, at, ident, text, texts, truth, unary, binary, assignment, space, access, path, end, tree}
 use Rattle.wesl_tree_syntax.specs.Kinds.{kind_number, same_kind, same_role}
 use Rattle.wesl_text_form.specs.Spelling.{Label, Forest, is_kind, is_end}
+use Rattle.wesl_text_form.specs.Productions.{Row, Rows, row_at}
+use Rattle.wesl_text_reading.proofs.Filled.{no_some, of_some}
 
 -- all kinds in the order of their numbers
 abbrev kinds : List Kind
@@ -139,3 +141,15 @@ label_is k (path p) h = absurd (false≢true h)
 pub end_is : (f : Forest) → is_end f ≡ true → f ≡ end
 end_is end h = refl
 end_is (tree l c o) h = absurd (false≢true h)
+
+-- a test of all rows of a table whose kinds pass another
+abbrev pub all_such : (Kind → Bool) → (Row → Bool) → Rows → Bool
+all_such p q [] = true
+all_such p q (x ∷ xs) = (not (p x.0) || q x.1) && all_such p q xs
+
+pub such_row : (p : Kind → Bool) (q : Row → Bool) (xs : Rows) (k : Kind) (r : Row) → all_such p q xs ≡ true → p k ≡ true → row_at xs k ≡ Some r → q r ≡ true
+such_row p q [] k r a e h = absurd (no_some r h)
+such_row p q (x ∷ xs) k r a e h = let y : ((not (p x.0) || q x.1) ≡ true) × (all_such p q xs ≡ true) = and_parts (not (p x.0) || q x.1) (all_such p q xs) a in by (λ g. such_row p q xs k r y.1 e g) y.0 (same_kind k x.0) refl h where
+  by : (row_at xs k ≡ Some r → q r ≡ true) → (not (p x.0) || q x.1) ≡ true → (b : Bool) → same_kind k x.0 ≡ b → (if b then Some x.1 else row_at xs k) ≡ Some r → q r ≡ true
+  by others d true c g = ap q (of_some r x.1 (sym g)) ∙ (ap (λ z. not z || q x.1) (sym e ∙ ap p (kind_is k x.0 c)) ∙ d)
+  by others d false c g = others g

@@ -11,7 +11,7 @@ use Rattle.wesl_text_writable.proofs.Grouped.{number_behind, NoBrackets, IsBrack
 use Rattle.wesl_text_writable.proofs.KnownApart.{before_joined, known_apart}
 use Rattle.wesl_text_writable.proofs.Quiet.{mark_first}
 use Rattle.wesl_text_writable.proofs.MadeApart.{AllBracketed, AreMeant}
-use Rattle.wesl_text_writable.proofs.LeftOut.{SameBrackets, behind_le, done_here, first_bracketed, names_forgotten, number_of, state, unmarked_first}
+use Rattle.wesl_text_writable.proofs.LeftOut.{SameBrackets, behind_le, done_here, first_bracketed, names_forgotten, number_of, state, unmarked_first, last_bracketed, both_bracketed, number_le}
 use Rattle.wesl_text_reading.proofs.Filled.{no_true}
 use Rattle.wesl_text_respell.proofs.Pending.{IsSorted}
 use Rattle.wesl_text_respell.proofs.Inside.{leads_end, bits_sorted}
@@ -33,19 +33,7 @@ before_state : (ts : List Token) (i : ℕ) (k : Known) → Before i k → Before
 before_state [] i k b = b
 before_state (t ∷ ts) i k b = before_state ts (number_behind i (token_bits t)) (known_from i k (token_bits t)) (before_joined (token_bits t) i k b)
 
-last_bracketed : (final : Known) (ts us : List Token) (i : ℕ) → AllBracketed final i (ts ++ us) → AllBracketed final (number_of i ts) us
-last_bracketed final [] us i a = a
-last_bracketed final (t ∷ ts) us i a = last_bracketed final ts us (number_behind i (token_bits t)) a.1
-
-both_bracketed : (final : Known) (ts us : List Token) (i : ℕ) → AllBracketed final i ts → AllBracketed final (number_of i ts) us → AllBracketed final i (ts ++ us)
-both_bracketed final [] us i a b = b
-both_bracketed final (t ∷ ts) us i a b = (a.0, both_bracketed final ts us (number_behind i (token_bits t)) a.1 b)
-
 -- ---- the same brackets under other numbers
-
-number_le : (ts : List Token) (i : ℕ) → i ≤ number_of i ts
-number_le [] i = omega arith
-number_le (t ∷ ts) i = omega (arith, behind_le (token_bits t) i, number_le ts (number_behind i (token_bits t)))
 
 -- what is known of the piece with a number in the one is known of the piece with the number for it in the other
 abbrev Agree : Known → Known → (ℕ → ℕ) → (ℕ → ℕ) → ℕ → Type 0

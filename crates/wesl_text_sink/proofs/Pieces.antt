@@ -14,7 +14,7 @@ use Rattle.wesl_text_tokens.specs.Numbers.{goes_on, is_whole_number}
 use Rattle.wesl_text_tokens.specs.Pieces.{What, a_name, a_number, a_sign, Piece, Bit, Mode, Fault, gap, in_name, in_number, in_sign, Step, piece, on, stops, no_number, begun, ended, at_number, at_sign, step, followed_by, and_then, read_from}
 use Rattle.wesl_text_tokens.specs.Symbols.{symbol_text}
 use Rattle.wesl_text_tokens.specs.Tokens.{Token, name, number, symbol, open_list, close_list}
-use Rattle.wesl_text_tokens.proofs.Steps.{followed_twice, nothing_before}
+use Rattle.wesl_text_tokens.proofs.Steps.{followed_twice, ended_then}
 use Rattle.wesl_text_tokens.proofs.SymbolTexts.{each}
 use Rattle.wesl_text_form.specs.Says.{sign_bit, sign_bits, token_bits}
 use Rattle.wesl_text_sound.proofs.TokensHold.{Digits}
@@ -35,10 +35,6 @@ placed_bits at [] = []
 placed_bits at (b ∷ bs) = piece b.what at (at + length (what_text b.what)) ∷ placed_bits (at + length (what_text b.what)) bs
 
 -- ---- a piece that ends before a character
-
-ended_then : (p : Piece) (x : Result Mode Fault) (rest : Mode → Result (List Piece) Fault) → and_then (record { done = p ∷ []; next = x }) rest ≡ followed_by (p ∷ []) (and_then (record { done = []; next = x }) rest)
-ended_then p (Err e) rest = refl
-ended_then p (Ok m) rest = ap (followed_by (p ∷ [])) (turned (nothing_before (rest m)))
 
 ends_before : (m : Mode) (w : What) (s at c : ℕ) (rest : List ℕ) → step m at c ≡ ended w s at c → read_from m at (c ∷ rest) ≡ followed_by (piece w s at ∷ []) (read_from gap at (c ∷ rest))
 ends_before m w s at c rest e =

@@ -1,5 +1,5 @@
 -- Characters that are read as one name or one number.
-use Rattle.std.proofs.Common.{◌≡◌, ℕ, ◌+◌, ◌≤◌, Bool, true, false, ◌&&◌, ◌||◌, ◌==◌, nat_lt, if◌then◌else◌, List, [], ◌∷◌, ◌++◌, length, Option, Some, None, Ok, IsUtf8, refl, sym as turned, ap, ◌∙◌, subst, append_assoc, length-append, arith}
+use Rattle.std.proofs.Common.{◌≡◌, ℕ, ◌+◌, Bool, true, false, ◌||◌, ◌==◌, if◌then◌else◌, List, [], ◌∷◌, ◌++◌, length, Option, Some, None, Ok, IsUtf8, refl, sym as turned, ap, ◌∙◌, subst, append_assoc, length-append, arith}
 use Rattle.std.proofs.lemmas.Bool.{and_from, and_parts, false≢true}
 use Rattle.std.proofs.lemmas.Slice.Eq.{bytes_eq-Decides}
 use Rattle.std.proofs.lemmas.Str.{scalars-chars, encodes-append, length-encode, len_utf8_ascii}
@@ -7,7 +7,7 @@ use lib.Utf8.{scalar, scalars, encodes}
 use Rattle.std.specs.Char.{len_utf8}
 use Rattle.std.specs.Str.{chars}
 use Rattle.wesl_tree_names.specs.Path.{Text}
-use Rattle.wesl_text_tokens.specs.Characters.{is_one_of, is_digit, begins_name, goes_on_name, bytes_of}
+use Rattle.wesl_text_tokens.specs.Characters.{is_digit, begins_name, goes_on_name, bytes_of}
 use Rattle.wesl_text_tokens.specs.Numbers.{goes_on, is_whole_number}
 use Rattle.wesl_text_tokens.specs.Pieces.{a_name, Mode, gap, in_name, in_number, in_sign, Step, on, begun, ended, at_number, at_sign, step, read_from}
 use Rattle.wesl_text_tokens.specs.Tokens.{Token, name, number, symbol, open_list, close_list, tokens}
@@ -15,7 +15,7 @@ use Rattle.wesl_text_tokens.proofs.Steps.{bytes_of_is}
 use Rattle.wesl_text_form.specs.Names.{is_alone, is_number, is_word}
 use Rattle.wesl_text_sink.specs.Touching.{first_of}
 use Rattle.wesl_text_sound.proofs.TokensHold.{Digits, AllHold, Characters, tokens_hold}
-use Rattle.wesl_text_sound.proofs.Alone.{digit_low, goes_low, low_encoded, low_more, low_scalars, on_step, one_encoded, other_high, scalars_and}
+use Rattle.wesl_text_sound.proofs.Alone.{digit_low, goes_low, low_encoded, low_more, low_scalars, on_step, one_encoded, scalars_and}
 
 -- ---- characters that are read in a mode
 
@@ -88,16 +88,6 @@ pub record NumberRuns (t : Text) (d : Digits) : Type 0 where
   pub begin : begins_number (first_of t) ≡ true
 
 -- ---- a number goes on with low characters alone
-
-abbrev all_low : List ℕ → Bool
-all_low [] = true
-all_low (d ∷ ds) = nat_lt d 128 && all_low ds
-
-among_high : (ds : List ℕ) (c : ℕ) → all_low ds ≡ true → 128 ≤ c → is_one_of ds c ≡ false
-among_high [] c a h = refl
-among_high (d ∷ ds) c a h =
-    let x : (nat_lt d 128 ≡ true) × (all_low ds ≡ true) = and_parts (nat_lt d 128) (all_low ds) a in
-    ap (λ z. z || is_one_of ds c) (other_high d c x.0 h) ∙ among_high ds c x.1 h
 
 number_begins : (c : ℕ) (d : Digits) → ((at : ℕ) → begun at c ≡ Ok (in_number at (c ∷ []) d)) → is_digit c ≡ true → NumberRuns (c ∷ []) d
 number_begins c d b h = record {

@@ -1,17 +1,17 @@
 -- What is read as a node of a sort is said there, where its children are.
-use Rattle.std.proofs.Common.{◌≡◌, zero, suc, Bool, true, false, not, ◌&&◌, ◌||◌, if◌then◌else◌, List, [], ◌∷◌, Option, Some, None, option_and_then, option_map, refl, sym as turned, ap, ◌∙◌, subst}
+use Rattle.std.proofs.Common.{◌≡◌, zero, suc, Bool, true, false, ◌&&◌, if◌then◌else◌, List, [], Option, Some, None, option_and_then, option_map, refl, sym as turned, ap, ◌∙◌, subst}
 use Rattle.wesl_tree_names.specs.Path.{Text}
 use Rattle.wesl_tree_syntax.specs.Kinds.{same_kind}
 use Rattle.wesl_tree_syntax.specs.Tree.{Kind, kind, at, unary, binary, assignment, space, access, end, TreeOf, before, expression_node, statement_node, attribute_node, member_node, import_node, directive_node, declaration_node}
 use Rattle.wesl_tree_syntax.specs.declared.statement.AssignmentOperator.TheVariants as assignment_operator
 use Rattle.wesl_text_tokens.specs.Tokens.{Token}
-use Rattle.wesl_text_form.specs.Productions.{Sort, an_expression, a_bare_expression, an_attribute, a_bare_attribute, a_space, an_access, an_import, a_bare_import, a_directive, a_bare_directive, a_member, a_bare_member, a_statement, a_bare_statement, a_declaration, a_bare_declaration, Row, Rows, nothing, own, row_at, rows_of, rows_of_bare_statement, row_of, spanned}
+use Rattle.wesl_text_form.specs.Productions.{Sort, an_expression, a_bare_expression, an_attribute, a_bare_attribute, a_space, an_access, an_import, a_bare_import, a_directive, a_bare_directive, a_member, a_bare_member, a_statement, a_bare_statement, a_declaration, a_bare_declaration, Row, nothing, own, rows_of, rows_of_bare_statement, row_of, spanned}
 use Rattle.wesl_text_form.specs.Spelling.{Label, Forest, spells, followed, first_slots, fits, stands_as, is_simple, without_last}
 use Rattle.wesl_text_reading.specs.Leaves.{Read, after, where_so}
 use Rattle.wesl_text_reading.specs.Reading.{Reader, node_of, label_first, read_row, read_node, without_end, read_part, node}
 use Rattle.wesl_text_reading.proofs.Filled.{no_some, of_some, no_true, fill}
 use Rattle.wesl_text_reading.proofs.Takes.{at_rows}
-use Rattle.wesl_text_reading.proofs.KindsAgain.{kind_is}
+use Rattle.wesl_text_reading.proofs.KindsAgain.{such_row}
 use Rattle.wesl_text_reading.proofs.Unended.{ends_with, ends_gone, splits}
 use Rattle.wesl_text_sound.proofs.TakenApart.{with_rest, after_some, where_some, node_fills}
 use Rattle.wesl_text_sound.proofs.ListsSaid.{NodeSaid, IsSound, IsSoundPart, RowSaid}
@@ -52,18 +52,6 @@ rows_said s l r h = absurd (no_some r h)
 -- whether a row ends with `;`, and what is read without it is said
 abbrev may_end : (Sort → Reader) → Row → Bool
 may_end child r = ends_with r && is_said false (without_end child r)
-
--- a test of all rows of a table whose kinds pass another
-abbrev all_such : (Kind → Bool) → (Row → Bool) → Rows → Bool
-all_such p q [] = true
-all_such p q (x ∷ xs) = (not (p x.0) || q x.1) && all_such p q xs
-
-such_row : (p : Kind → Bool) (q : Row → Bool) (xs : Rows) (k : Kind) (r : Row) → all_such p q xs ≡ true → p k ≡ true → row_at xs k ≡ Some r → q r ≡ true
-such_row p q [] k r a e h = absurd (no_some r h)
-such_row p q (x ∷ xs) k r a e h = let y : ((not (p x.0) || q x.1) ≡ true) × (all_such p q xs ≡ true) = and_parts (not (p x.0) || q x.1) (all_such p q xs) a in by (λ g. such_row p q xs k r y.1 e g) y.0 (same_kind k x.0) refl h where
-  by : (row_at xs k ≡ Some r → q r ≡ true) → (not (p x.0) || q x.1) ≡ true → (b : Bool) → same_kind k x.0 ≡ b → (if b then Some x.1 else row_at xs k) ≡ Some r → q r ≡ true
-  by others d true c g = ap q (of_some r x.1 (turned g)) ∙ (ap (λ z. not z || q x.1) (turned e ∙ ap p (kind_is k x.0 c)) ∙ d)
-  by others d false c g = others g
 
 simple_row : (child : Sort → Reader) (l : Label) (r : Row) → row_of a_bare_statement l ≡ Some r → is_simple (Some l) ≡ true → may_end child r ≡ true
 simple_row child (assignment assignment_operator.Equal) r h e = ap (may_end child) (of_some r _ (turned h))

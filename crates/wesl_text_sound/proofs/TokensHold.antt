@@ -11,14 +11,8 @@ use Rattle.wesl_text_tokens.specs.Symbols.{symbol_of}
 use Rattle.wesl_text_tokens.specs.Pieces.{What, a_name, a_number, a_sign, Piece, Bit, Mode, gap, line_comment, block_comment, in_name, in_number, in_sign, Fault, nothing_begins, no_number, Step, piece, on, stops, begun, ended, in_comment, at_number, at_sign, step, last_pieces, followed_by, read_from, bits_from, bits_of}
 use Rattle.wesl_text_tokens.specs.Brackets.{Known, brackets}
 use Rattle.wesl_text_tokens.specs.Tokens.{Token, name, number, symbol, open_list, close_list, Made, Held, let_go, joins, more, Joined, behind, join, made_from, made_of, tokens_of_bits, tokens}
-use Rattle.wesl_text_reading.proofs.Filled.{no_some, of_some, no_true}
+use Rattle.wesl_text_reading.proofs.Filled.{no_some, of_some, no_true, of_ok, no_ok}
 use Rattle.std.proofs.lemmas.Bool.{and_parts}
-
-of_ok : {A E : Type 0} (x y : A) → (let r : Result A E = Ok x in r) ≡ Ok y → x ≡ y
-of_ok x y h = cc
-
-no_ok : {A E : Type 0} (e : E) (y : A) → (let r : Result A E = Err e in r) ≡ Ok y → ⊥
-no_ok e y h = let z : ⊥ = cc in z
 
 -- What has been read of a number. Its name is private to the crate of tokens, so it is told as what the test of whole numbers is of.
 abbrev Tested : {A : Type 0} → (A → Bool) → Type 0

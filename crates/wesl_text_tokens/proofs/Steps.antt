@@ -40,7 +40,7 @@ end_at t m at h = ap (λ r. read_from m at (chars r)) (drop_all at t h) ∙ ap (
 pub on_at : (t : Text) (m n : Mode) (at c : ℕ) → IsCharAt t at c → step m at c ≡ on n → read_at t m at ≡ read_at t n (at + len_utf8 c)
 on_at t m n at c h e = step_at t m at c h ∙ ap (λ s. and_then s (λ k. read_at t k (at + len_utf8 c))) e ∙ nothing_before (read_at t n (at + len_utf8 c))
 
-ended_then : (p : Piece) (x : Result Mode Fault) (rest : Mode → Result (List Piece) Fault) → and_then (record { done = p ∷ []; next = x }) rest ≡ followed_by (p ∷ []) (and_then (record { done = []; next = x }) rest)
+pub ended_then : (p : Piece) (x : Result Mode Fault) (rest : Mode → Result (List Piece) Fault) → and_then (record { done = p ∷ []; next = x }) rest ≡ followed_by (p ∷ []) (and_then (record { done = []; next = x }) rest)
 ended_then p (Err e) rest = refl
 ended_then p (Ok m) rest = ap (followed_by (p ∷ [])) (sym (nothing_before (rest m)))
 

@@ -11,11 +11,11 @@ use Rattle.wesl_text_tokens.specs.Tokens.{number, open_list, close_list, Token, 
 use Rattle.wesl_text_form.specs.Slots.{must, alone}
 use Rattle.wesl_text_form.specs.Names.{is_word, is_number, is_name, are_words, are_names, is_path, is_among, known_attributes}
 use Rattle.wesl_text_form.specs.Operators.{class_of, is_tight}
-use Rattle.wesl_text_form.specs.Productions.{Sort, an_expression, a_bare_expression, an_attribute, a_bare_attribute, a_space, an_access, an_import, a_bare_import, a_directive, a_bare_directive, a_member, a_bare_member, a_statement, a_bare_statement, a_declaration, a_bare_declaration, a_selector, a_body, Leaf, an_ident, an_item, a_name, a_word, a_custom, a_literal, a_rule, some_words, one_or_two, steps, a_path, Row, Rows, nothing, sym, may_sym, says, opens, closes, own, leaf, run, commas, optional, inside, target, selectors, unended, arrow, attrs, rows_of, rows_of_bare_statement, row_at, row_of, spanned}
+use Rattle.wesl_text_form.specs.Productions.{Sort, an_expression, a_bare_expression, an_attribute, a_bare_attribute, a_space, an_access, an_import, a_bare_import, a_directive, a_bare_directive, a_member, a_bare_member, a_statement, a_bare_statement, a_declaration, a_bare_declaration, a_selector, a_body, Leaf, an_ident, an_item, a_name, a_word, a_custom, a_literal, a_rule, some_words, one_or_two, steps, a_path, Row, nothing, sym, may_sym, says, opens, closes, own, leaf, run, commas, optional, inside, target, selectors, unended, arrow, attrs, rows_of, rows_of_bare_statement, row_of, spanned}
 use Rattle.wesl_text_form.specs.Spelling.{Label, Forest, Slots, spells, followed, named, signed, parted, trailing, stepped, package_words, origin_slots, dot, is_one_or_two, item_role, leaf_slots, first_slots, row_slots, row_of_none, with_comma, label_at, below_first, is_kind, is_wildcard, leads_to_place, is_lone_default, is_end, is_absent_at, is_simple, is_simple_at, without_last}
 use Rattle.wesl_text_reading.specs.Reading.{Reader, without_end}
 use Rattle.wesl_text_reading.proofs.Filled.{no_some, of_some, no_true}
-use Rattle.wesl_text_reading.proofs.KindsAgain.{kind_is, label_is}
+use Rattle.wesl_text_reading.proofs.KindsAgain.{kind_is, label_is, such_row}
 use Rattle.wesl_text_reading.proofs.Unended.{ends_with, ends_gone, splits}
 use Rattle.wesl_text_writable.proofs.Clear.{braced, is_left_out, is_hard_before, is_clear_before, are_hard, are_clear, clear_any, clear_joined, clear_followed, clear_may, clear_must, trailing_clear}
 use Rattle.wesl_text_writable.proofs.Braced.{is_comma}
@@ -61,18 +61,6 @@ is_clear b (arrow row) = is_hard b row && is_clear b row
 abbrev is_for : Label → Bool
 is_for (kind k) = same_kind k for_loop
 is_for l = false
-
--- a test of all rows of a table whose kinds pass another
-abbrev all_such : (Kind → Bool) → (Row → Bool) → Rows → Bool
-all_such p q [] = true
-all_such p q (x ∷ xs) = (not (p x.0) || q x.1) && all_such p q xs
-
-such_row : (p : Kind → Bool) (q : Row → Bool) (xs : Rows) (k : Kind) (r : Row) → all_such p q xs ≡ true → p k ≡ true → row_at xs k ≡ Some r → q r ≡ true
-such_row p q [] k r a e h = absurd (no_some r h)
-such_row p q (x ∷ xs) k r a e h = let y : ((not (p x.0) || q x.1) ≡ true) × (all_such p q xs ≡ true) = and_parts (not (p x.0) || q x.1) (all_such p q xs) a in by (λ g. such_row p q xs k r y.1 e g) y.0 (same_kind k x.0) refl h where
-  by : (row_at xs k ≡ Some r → q r ≡ true) → (not (p x.0) || q x.1) ≡ true → (b : Bool) → same_kind k x.0 ≡ b → (if b then Some x.1 else row_at xs k) ≡ Some r → q r ≡ true
-  by others d true c g = ap q (of_some r x.1 (turned g)) ∙ (ap (λ z. not z || q x.1) (turned e ∙ ap p (kind_is k x.0 c)) ∙ d)
-  by others d false c g = others g
 
 spanned_clear : (k : Kind) (s : Sort) (j : Kind) (r : Row) → spanned k s j ≡ Some r → is_clear false r ≡ true
 spanned_clear k s j r h = at (same_kind k j) h where

@@ -39,11 +39,11 @@ pub first_bracketed : (final : Known) (ts us : List Token) (i : ℕ) → AllBrac
 first_bracketed final [] us i a = tt
 first_bracketed final (t ∷ ts) us i a = (a.0, first_bracketed final ts us (number_behind i (token_bits t)) a.1)
 
-last_bracketed : (final : Known) (ts us : List Token) (i : ℕ) → AllBracketed final i (ts ++ us) → AllBracketed final (number_of i ts) us
+pub last_bracketed : (final : Known) (ts us : List Token) (i : ℕ) → AllBracketed final i (ts ++ us) → AllBracketed final (number_of i ts) us
 last_bracketed final [] us i a = a
 last_bracketed final (t ∷ ts) us i a = last_bracketed final ts us (number_behind i (token_bits t)) a.1
 
-both_bracketed : (final : Known) (ts us : List Token) (i : ℕ) → AllBracketed final i ts → AllBracketed final (number_of i ts) us → AllBracketed final i (ts ++ us)
+pub both_bracketed : (final : Known) (ts us : List Token) (i : ℕ) → AllBracketed final i ts → AllBracketed final (number_of i ts) us → AllBracketed final i (ts ++ us)
 both_bracketed final [] us i a b = b
 both_bracketed final (t ∷ ts) us i a b = (a.0, both_bracketed final ts us (number_behind i (token_bits t)) a.1 b)
 
@@ -51,7 +51,7 @@ pub behind_le : (bs : List Bit) (i : ℕ) → i ≤ number_behind i bs
 behind_le [] i = omega arith
 behind_le (b ∷ bs) i = omega (arith, behind_le bs (suc i))
 
-number_le : (ts : List Token) (i : ℕ) → i ≤ number_of i ts
+pub number_le : (ts : List Token) (i : ℕ) → i ≤ number_of i ts
 number_le [] i = omega arith
 number_le (t ∷ ts) i = omega (arith, behind_le (token_bits t) i, number_le ts (number_behind i (token_bits t)))
 

@@ -7,14 +7,8 @@ use Rattle.wesl_tree_names.specs.Path.{Text}
 use Rattle.wesl_text_tokens.specs.Characters.{is_blank, is_line_end, is_digit, begins_name, goes_on_name, is_sign, is_doubled, bytes_of}
 use Rattle.wesl_text_tokens.specs.Numbers.{goes_on, is_whole_number}
 use Rattle.wesl_text_tokens.specs.Pieces.{What, a_name, a_number, a_sign, Piece, Bit, Mode, gap, line_comment, block_comment, in_name, in_number, in_sign, Fault, nothing_begins, no_number, Step, piece, on, stops, begun, ended, in_comment, at_number, followed_by, read_from, bits_from, bits_of}
-use Rattle.wesl_text_reading.proofs.Filled.{no_true}
+use Rattle.wesl_text_reading.proofs.Filled.{no_true, of_ok, no_ok}
 use mathlib.Core.Bool.{and-false}
-
-of_ok : {A E : Type 0} (x y : A) → (let r : Result A E = Ok x in r) ≡ Ok y → x ≡ y
-of_ok x y h = cc
-
-no_ok : {A E : Type 0} (e : E) (y : A) → (let r : Result A E = Err e in r) ≡ Ok y → ⊥
-no_ok e y h = let z : ⊥ = cc in z
 
 -- What has been read of a number, whose name is private to the crate of tokens: what the test of whole numbers is of.
 abbrev Tested : {A : Type 0} → (A → Bool) → Type 0

@@ -15,7 +15,7 @@ abbrev pub joined : List Tree → Forest → Forest
 joined [] f = f
 joined (t ∷ ts) f = before t (joined ts f)
 
-joined_more : (ts : List Tree) (t : Tree) (f : Forest) → joined (ts ++ t ∷ []) f ≡ joined ts (before t f)
+pub joined_more : (ts : List Tree) (t : Tree) (f : Forest) → joined (ts ++ t ∷ []) f ≡ joined ts (before t f)
 joined_more [] t f = refl
 joined_more (u ∷ ts) t f = ap (before u) (joined_more ts t f)
 

@@ -13,9 +13,11 @@ use Rattle.wesl_tree_syntax.specs.declared.attribute.Attribute.TheVariants as at
 use Rattle.wesl_tree_syntax.specs.contracts.expression.ExpressionPartialEq.TheImpl as expressions
 use Rattle.wesl_tree_syntax.specs.contracts.attribute.AttributePartialEq.TheImpl as equality
 use Rattle.wesl_tree_equality.specs.Numbered.{numbered}
-use Rattle.wesl_tree_equality.proofs.Trees.{along, both, under, alone, different, last, then, itself, one_optional}
+use Rattle.wesl_tree_equality.proofs.Trees.{under, alone, different, last, then, itself, one_optional}
+use Rattle.wesl_tree_base.proofs.Deciding.{along}
 use Rattle.wesl_tree_equality.proofs.OfLiterals.{one_text}
 use Rattle.wesl_tree_equality.proofs.OfExpressions.{expressions_decided}
+use Rattle.std.proofs.lemmas.Bool.Decides.{Decides-and as both}
 
 pub string_decided : (s t : String Global) → Decides (string_eq s t) (numbered (text_tree s) ≡ numbered (text_tree t))
 string_decided s t = alone (one_text _ _ (bytes_eq-Decides (string_bytes s) (string_bytes t)))

@@ -41,8 +41,10 @@ use Rattle.wesl_tree_syntax.specs.declared.expression.Expression.TheOpen.{Expres
 use Rattle.wesl_tree_syntax.specs.declared.expression.Expression.TheFolds.{ind-Expression, ind-FunctionCall, ind-TemplateArg, ind-TypeExpression, fold-roll-Expression, fold-roll-FunctionCall, fold-roll-TemplateArg, fold-roll-TypeExpression}
 use Rattle.wesl_tree_syntax.specs.declared.expression.Expression.TheViews.{roll-out-Expression, out-FunctionCall, roll-FunctionCall, out-roll-FunctionCall, roll-out-FunctionCall, out-TemplateArg, roll-TemplateArg, out-roll-TemplateArg, roll-out-TemplateArg, out-TypeExpression, roll-TypeExpression, out-roll-TypeExpression, roll-out-TypeExpression}
 use Rattle.wesl_tree_equality.specs.Numbered.{numbered}
-use Rattle.wesl_tree_equality.proofs.Trees.{along, both, labelled, under, alone, apart, different, last, then, itself, one_optional, settle}
+use Rattle.wesl_tree_equality.proofs.Trees.{labelled, under, alone, apart, different, last, then, itself, one_optional, settle}
+use Rattle.wesl_tree_base.proofs.Deciding.{along}
 use Rattle.wesl_tree_equality.proofs.OfLiterals.{one_text, literals_decided}
+use Rattle.std.proofs.lemmas.Bool.Decides.{Decides-and as both}
 
 abbrev Held : the_members → Type 0
 Held = Values the_members the_sigs the_carrier

@@ -10,7 +10,8 @@ use Rattle.wesl_tree_syntax.specs.declared.expression.Literal.{Literal}
 use Rattle.wesl_tree_syntax.specs.declared.expression.Literal.TheVariants as literals
 use Rattle.wesl_tree_syntax.specs.contracts.expression.LiteralPartialEq.TheImpl as literal
 use Rattle.wesl_tree_equality.specs.Numbered.{numbered}
-use Rattle.wesl_tree_equality.proofs.Trees.{along, alone, apart}
+use Rattle.wesl_tree_equality.proofs.Trees.{alone, apart}
+use Rattle.wesl_tree_base.proofs.Deciding.{along}
 
 pub one_truth : (x y : Bool) {r : Bool} → Decides r (x ≡ y) → Decides r ((let l : Label = truth x in l) ≡ truth y)
 one_truth x y d = along d (λ e. ap (λ k. let l : Label = truth k in l) e) (λ e. let p : x ≡ y = cc in p)

@@ -1,5 +1,5 @@
 -- Tests that decide whether trees are one.
-use Rattle.std.proofs.Common.{◌≡◌, subst, ℕ, suc, Bool, true, false, ◌&&◌, refl, ap, List, [], ◌∷◌, map, Option, Some, None}
+use Rattle.std.proofs.Common.{◌≡◌, subst, ℕ, suc, Bool, true, false, refl, ap, List, [], ◌∷◌, map, Option, Some, None}
 use Rattle.std.specs.Bool.{Decides}
 use Rattle.std.specs.Option.{option_eq}
 use Rattle.std.specs.Cmp.{unsigned_Decides}
@@ -9,15 +9,8 @@ use Rattle.wesl_tree_syntax.specs.View.{optional}
 use Rattle.wesl_tree_syntax.specs.Kinds.{kind_number}
 use Rattle.wesl_tree_syntax.specs.Tree.{Label, Forest, Tree, end, tree, before, forest_of, respell_forest, kind, unary, binary}
 use Rattle.wesl_tree_equality.specs.Numbered.{numbered}
-
--- a test of something equivalent
-pub along : {P Q : Type 0} {r : Bool} → Decides r P → (P → Q) → (Q → P) → Decides r Q
-along d there back = (λ e. there (d.0 e), λ q. d.1 (back q))
-
--- a test of two things
-pub both : {P Q : Type 0} (r s : Bool) → Decides r P → Decides s Q → Decides (r && s) (P × Q)
-both true s d e = (λ h. (d.0 refl, e.0 h), λ pq. e.1 pq.1)
-both false s d e = (λ h. cc, λ pq. d.1 pq.0)
+use Rattle.wesl_tree_base.proofs.Deciding.{along}
+use Rattle.std.proofs.lemmas.Bool.Decides.{Decides-and as both}
 
 -- a tree by its label and its children
 abbrev pub over : Label → Forest → Tree

@@ -32,9 +32,11 @@ use Rattle.wesl_tree_syntax.specs.contracts.declaration.ConstAssertPartialEq.The
 use Rattle.wesl_tree_syntax.specs.declared.declaration.Declaration.{Declaration}
 use Rattle.wesl_tree_syntax.specs.contracts.declaration.DeclarationPartialEq.TheImpl as declaration_equality
 use Rattle.wesl_tree_equality.specs.Numbered.{numbered}
-use Rattle.wesl_tree_equality.proofs.Trees.{along, both, labelled, under, alone, different, last, then, itself, one_optional}
+use Rattle.wesl_tree_equality.proofs.Trees.{labelled, under, alone, different, last, then, itself, one_optional}
+use Rattle.wesl_tree_base.proofs.Deciding.{along}
 use Rattle.wesl_tree_equality.proofs.OfExpressions.{types_decided}
 use Rattle.wesl_tree_equality.proofs.OfAttributes.{attributes_decided, string_decided, strings_decided, node_decided, items_decided}
+use Rattle.std.proofs.lemmas.Bool.Decides.{Decides-and as both}
 
 pub one_binder : (x y : ℕ) → Decides (nat_eq x y) ((let l : Label = ident binder x in l) ≡ ident binder y)
 one_binder x y = along (unsigned_Decides x y) (λ e. ap (λ k. let l : Label = ident binder k in l) e) (λ e. let p : x ≡ y = cc in p)

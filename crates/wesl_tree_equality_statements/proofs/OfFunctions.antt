@@ -10,11 +10,12 @@ use Rattle.wesl_tree_syntax.specs.contracts.declaration.FormalParameterPartialEq
 use Rattle.wesl_tree_syntax.specs.contracts.declaration.FunctionPartialEq.TheImpl as functions
 use Rattle.wesl_tree_syntax.specs.contracts.declaration.GlobalDeclarationPartialEq.TheImpl as declarations
 use Rattle.wesl_tree_equality.specs.Numbered.{numbered}
-use Rattle.wesl_tree_equality.proofs.Trees.{both, under, alone, different, last, then, itself, one_optional}
+use Rattle.wesl_tree_equality.proofs.Trees.{under, alone, different, last, then, itself, one_optional}
 use Rattle.wesl_tree_equality.proofs.OfExpressions.{types_decided}
 use Rattle.wesl_tree_equality.proofs.OfAttributes.{attributes_decided, items_decided}
 use Rattle.wesl_tree_equality_statements.proofs.OfDeclarations.{one_binder, alias_decided, struct_decided, parameter_decided, assert_decided, declaration_decided}
 use Rattle.wesl_tree_equality_statements.proofs.OfStatements.{compounds_decided}
+use Rattle.std.proofs.lemmas.Bool.Decides.{Decides-and as both}
 
 pub function_decided : (x y : Function) → Decides ((functions.ghosts).eq x y) (numbered (function_view x) ≡ numbered (function_view y))
 function_decided x y =

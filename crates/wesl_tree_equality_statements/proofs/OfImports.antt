@@ -26,9 +26,11 @@ use Rattle.wesl_tree_syntax.specs.declared.import.ImportContent.TheOpen.{ImportC
 use Rattle.wesl_tree_syntax.specs.declared.import.ImportContent.TheFolds.{ind-ImportContent, ind-Import, fold-roll-ImportContent, fold-roll-Import}
 use Rattle.wesl_tree_syntax.specs.declared.import.ImportContent.TheViews.{roll-out-ImportContent, out-roll-ImportContent, out-Import, roll-Import, out-roll-Import, roll-out-Import}
 use Rattle.wesl_tree_equality.specs.Numbered.{numbered}
-use Rattle.wesl_tree_equality.proofs.Trees.{along, both, under, alone, different, last, then, itself, one_optional, Decided, parts_decided, rolled}
+use Rattle.wesl_tree_equality.proofs.Trees.{under, alone, different, last, then, itself, one_optional, Decided, parts_decided, rolled}
+use Rattle.wesl_tree_base.proofs.Deciding.{along}
 use Rattle.wesl_tree_equality.proofs.OfExpressions.{one_path}
 use Rattle.wesl_tree_equality.proofs.OfAttributes.{attributes_decided, strings_decided}
+use Rattle.std.proofs.lemmas.Bool.Decides.{Decides-and as both}
 
 one_ident : (r : Role) (x y : ℕ) → Decides (nat_eq x y) ((let l : Label = ident r x in l) ≡ ident r y)
 one_ident r x y = along (unsigned_Decides x y) (λ e. ap (λ k. let l : Label = ident r k in l) e) (λ e. let p : x ≡ y = cc in p)

@@ -8,8 +8,9 @@ use Rattle.wesl_tree_syntax.specs.declared.statement.BreakIfStatement.{BreakIfSt
 use Rattle.wesl_tree_syntax.specs.contracts.statement.CaseSelectorPartialEq.TheImpl as selectors
 use Rattle.wesl_tree_syntax.specs.contracts.statement.BreakIfStatementPartialEq.TheImpl as break_ifs
 use Rattle.wesl_tree_equality.specs.Numbered.{numbered}
-use Rattle.wesl_tree_equality.proofs.Trees.{both, under, different, last, then, itself}
+use Rattle.wesl_tree_equality.proofs.Trees.{under, different, last, then, itself}
 use Rattle.wesl_tree_equality.proofs.OfAttributes.{attributes_decided, node_decided}
+use Rattle.std.proofs.lemmas.Bool.Decides.{Decides-and as both}
 
 pub selector_decided : (x y : CaseSelector) → Decides ((selectors.ghosts).eq x y) (numbered (selector_view x) ≡ numbered (selector_view y))
 selector_decided variants.Default variants.Default = itself

@@ -15,10 +15,11 @@ use Rattle.wesl_tree_syntax.specs.contracts.statement.AssignmentOperator as assi
 use Rattle.wesl_tree_syntax.specs.declared.statement.Statement.TheOpen.{Statement-F}
 use Rattle.wesl_tree_equality.specs.Numbered.{numbered}
 use Rattle.wesl_tree_equality_statements.proofs.OfStatementLayers.{Part, same_attributes, same_expression, same_statement, trees, statement_seen, plain_statement, held_decided}
-use Rattle.wesl_tree_equality.proofs.Trees.{form, labelled, both, under, different, last, then, itself, one_optional}
+use Rattle.wesl_tree_equality.proofs.Trees.{form, labelled, under, different, last, then, itself, one_optional}
 use Rattle.wesl_tree_equality.proofs.OfExpressions.{calls_decided}
 use Rattle.wesl_tree_equality.proofs.OfAttributes.{attributes_decided, node_decided}
 use Rattle.wesl_tree_equality_statements.proofs.OfDeclarations.{assert_decided, declaration_decided}
+use Rattle.std.proofs.lemmas.Bool.Decides.{Decides-and as both}
 
 -- trees whose labels are of other forms are others
 other : (s t : Tree) → nat_eq (form s.label) (form t.label) ≡ false → Decides false (s ≡ t)

@@ -27,9 +27,10 @@ use Rattle.wesl_tree_syntax.specs.declared.statement.IfClause.{map-IfClause}
 use Rattle.wesl_tree_syntax.specs.declared.statement.SwitchClause.{map-SwitchClause}
 use Rattle.wesl_tree_syntax.specs.declared.statement.Statement.TheOpen.{Statement-F, CompoundStatement-F, ContinuingStatement-F, ElseClause-F, ElseIfClause-F, IfClause-F, SwitchClause-F}
 use Rattle.wesl_tree_equality.specs.Numbered.{numbered}
-use Rattle.wesl_tree_equality.proofs.Trees.{both, under, last, then, one_optional}
+use Rattle.wesl_tree_equality.proofs.Trees.{under, last, then, one_optional}
 use Rattle.wesl_tree_equality.proofs.OfAttributes.{attributes_decided, items_decided, node_decided}
 use Rattle.wesl_tree_equality_statements.proofs.OfSelectors.{selector_decided, break_if_decided}
+use Rattle.std.proofs.lemmas.Bool.Decides.{Decides-and as both}
 
 -- what stands in a part: its tree, its test, and what it is where the test is known to decide it
 pub record Part (A D : Type 0) : Type 0 where

@@ -1,6 +1,6 @@
 -- The paths that have a text are those that their text says.
 use Rattle.std.proofs.Common.{◌≡◌, ◌<◌, ◌+◌, ℕ, zero, suc, Bool, true, false, not, ◌&&◌, ◌||◌, eqb, if◌then◌else◌, List, [], ◌∷◌, ◌++◌, length, Option, Some, None, option_map, refl, ap, sym, ◌∙◌, subst, inl, inr, arith, append_assoc, add-zero, eq-eqb}
-use Rattle.std.proofs.lemmas.Bool.{false≢true}
+use Rattle.std.proofs.lemmas.Bool.{false≢true, not-true}
 use Rattle.std.specs.Str.{bytes_eq}
 use lib.Chars.{codes}
 use Rattle.wesl_tree_names.specs.Path.{Text, Origin, absolute, relative, from_package, Path}
@@ -19,10 +19,6 @@ and-join a b h k = λ i. h i && k i
 or-neither : (a b : Bool) → (a || b) ≡ false → (a ≡ false) × (b ≡ false)
 or-neither true b h = absurd (false≢true (sym h))
 or-neither false b h = (refl, h)
-
-not-true : (a : Bool) → not a ≡ true → a ≡ false
-not-true true h = absurd (false≢true h)
-not-true false h = refl
 
 -- ---- a text is cut where it was joined
 

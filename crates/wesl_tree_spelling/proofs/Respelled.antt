@@ -16,14 +16,11 @@ use Rattle.wesl_tree_syntax.specs.contracts.statement.AssignmentOperator as assi
 use Rattle.wesl_tree_syntax.specs.contracts.declaration.AddressSpace as address_space
 use Rattle.wesl_tree_syntax.specs.contracts.declaration.AccessMode as access_mode
 use mathlib.Core.Bool.{and-true}
+use Rattle.wesl_tree_base.proofs.Deciding.{along}
 
 -- the kinds in the order of their numbers
 kind_at : ℕ → Kind
 kind_at n = get_or (expression_node ∷ statement_node ∷ attribute_node ∷ member_node ∷ import_node ∷ directive_node ∷ declaration_node ∷ literal ∷ parenthesized ∷ named_component ∷ indexing ∷ call_expression ∷ call ∷ type_or_identifier ∷ type_expression ∷ template_argument ∷ list ∷ present ∷ absent ∷ attributes ∷ statements ∷ clauses ∷ members ∷ parameters ∷ align ∷ binding ∷ blend_src ∷ builtin ∷ const_attribute ∷ diagnostic ∷ group ∷ id ∷ interpolate ∷ invariant_attribute ∷ location ∷ must_use ∷ size ∷ workgroup_size ∷ vertex ∷ fragment ∷ compute ∷ publish ∷ if_attribute ∷ elif_attribute ∷ else_attribute ∷ custom ∷ void ∷ compound_statement ∷ compound ∷ increment ∷ decrement ∷ if_statement ∷ if_clause ∷ else_if_clause ∷ else_clause ∷ switch ∷ switch_clause ∷ default_case ∷ expression_case ∷ loop ∷ continuing ∷ break_if ∷ for_loop ∷ while_loop ∷ break ∷ continue ∷ return ∷ discard ∷ call_statement ∷ const_assert ∷ import_statement ∷ import_item ∷ import_collection ∷ import_entry ∷ diagnostic_directive ∷ enable_directive ∷ requires_directive ∷ type_alias ∷ struct ∷ member ∷ function ∷ parameter ∷ declaration ∷ const_kind ∷ override_kind ∷ let_kind ∷ var_kind ∷ imports ∷ directive_list ∷ declarations ∷ unit ∷ []) n unit
-
--- a test of something equivalent
-along : {P Q : Type 0} {r : Bool} → Decides r P → (P → Q) → (Q → P) → Decides r Q
-along d there back = (λ e. there (d.0 e), λ q. d.1 (back q))
 
 and_Decides : {P Q : Type 0} (r s : Bool) → Decides r P → Decides s Q → Decides (r && s) (P × Q)
 and_Decides true s d e = (λ h. (d.0 refl, e.0 h), λ pq. e.1 pq.1)

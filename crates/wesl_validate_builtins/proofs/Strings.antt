@@ -5,6 +5,7 @@ use Rattle.std.specs.HashSet.{HashSet}
 use Rattle.std.specs.List.{find, list_any}
 use Rattle.wesl_tree_names.specs.Path.{Text}
 use Rattle.wesl_validate_builtins.specs.Builtins.{AreKept, is_among}
+use Rattle.wesl_tree_base.proofs.Truth.{or_swap, cond_or}
 
 -- a search through a mapped list
 pub find_map : {X Y : Type 0} (p : Y → Bool) (f : X → Y) (xs : List X) (i : ℕ) (d : X) → i < length xs → p (f (get_or xs i d)) ≡ true → find p (map f (drop i xs)) ≡ Some (f (get_or xs i d))
@@ -26,15 +27,6 @@ pub any_map_next : {X Y : Type 0} (p : Y → Bool) (f : X → Y) (xs : List X) (
 any_map_next p f [] i d h e = absurd (omega (arith, h))
 any_map_next p f (x ∷ xs) zero d h e = ap (λ t. t || list_any p (map f xs)) e
 any_map_next p f (x ∷ xs) (suc i) d h e = any_map_next p f xs i d (omega (arith, h)) e
-
-or_swap : (s t u : Bool) → (s || (t || u)) ≡ (t || (s || u))
-or_swap true true u = refl
-or_swap true false u = refl
-or_swap false t u = refl
-
-cond_or : (s t : Bool) → cond s true t ≡ (s || t)
-cond_or true t = refl
-cond_or false t = refl
 
 -- one more of a mapped list, and of one after others
 any_taken : {X Y : Type 0} (p : Y → Bool) (f : X → Y) (xs : List X) (i : ℕ) (d : X) → i < length xs → list_any p (map f (take (suc i) xs)) ≡ (p (f (get_or xs i d)) || list_any p (map f (take i xs)))

@@ -18,9 +18,11 @@ use Rattle.wesl_validate_calls.specs.Judged.{count_at, ends_at}
 use Rattle.wesl_validate_calls.specs.Tables.{Tables}
 use Rattle.wesl_validate_rules.specs.Calls.{CallOf}
 use Rattle.wesl_validate_calls.specs.declared.misfit.Misfit.TheVariants as misfit
-use Rattle.wesl_validate_calls.proofs.Judging.{no, either_of}
+use Rattle.wesl_validate_calls.proofs.Judging.{either_of}
+use Rattle.wesl_scope_values.proofs.HandedOn.{no}
 use Rattle.wesl_validate_calls.proofs.Searching.{any_from, any_to}
 use Rattle.wesl_validate_calls.proofs.Taking.{past}
+use Rattle.wesl_scope_groups.proofs.Grouped.{within}
 
 module _ (g back : Graph) (turned : IsTurned g back) where
   -- values that are handed on in the turned graph
@@ -42,11 +44,6 @@ module _ (g back : Graph) (turned : IsTurned g back) where
     pub least_is : (o : Option ℕ) → IsLeast back told m o → IsLeastEnd g p m o
     least_is None none = λ q. none q.0 (given q.0 q.1 q.2)
     least_is (Some v) (h, less) = let s = gives v h in (s.0, s.1, λ d l r q. less d l (given d r q))
-
--- aliases that lead on stay in the graph
-within : (g : Graph) → IsClosed g → (m e : ℕ) → m < length g → ReachedFrom g m e → e < length g
-within g closed m e l (itself _) = l
-within g closed m e l (onward _ d _ s r) = within g closed d e (closed m d s) r
 
 -- a number past the end of the graph leads to itself alone
 alone : (g : Graph) (m e : ℕ) → length g ≤ m → ReachedFrom g m e → m ≡ e

@@ -21,12 +21,7 @@ use Rattle.wesl_validate_calls.proofs.Members.{contains_none, contains_here}
 use Rattle.wesl_validate_calls.proofs.Searching.{any_from, any_to, some_from, none_from, same_first}
 use Rattle.std.proofs.lemmas.Bool.{and_from, and_parts, not_from_false, or_left, or_right}
 use Rattle.wesl_scope_strip.proofs.Keeping.{not_true}
-
-pub no : {P : Type 0} → false ≡ true → P
-no e = absurd (let f : false ≡ true = e in cc)
-
-pub is_some_not_none : {P Y : Type 0} (o : Option Y) (y : Y) → o ≡ Some y → o ≡ None → P
-is_some_not_none o y e f = absurd (let g : Some y ≡ None = sym e ∙ f in cc)
+use Rattle.wesl_scope_values.proofs.HandedOn.{no, some_not_none}
 
 pub some_inside : {Y : Type 0} (x y : Y) → Some x ≡ Some y → x ≡ y
 some_inside x y e = cc
@@ -103,7 +98,7 @@ module _ (u : UnitView) (t : Tables) (a : AreTables u t) where
       (s.0, (a.declared e s.0).0 s.1, count_from (shape_of u s.0) k (ap count_of (sym (a.shaped s.0)) ∙ s.2))
 
   counts_none : (e : ℕ) → count_at t e ≡ None → (k : ℕ) → Counts u e k → ⊥
-  counts_none e h k (j, d, s) = is_some_not_none (count_of (shape_at t.shapes j)) k (ap count_of (a.shaped j) ∙ count_to (shape_of u j) k s) (none_from (λ i. count_of (shape_at t.shapes i)) (edges_at t.declarers e) h j ((a.declared e j).1 d))
+  counts_none e h k (j, d, s) = some_not_none (count_of (shape_at t.shapes j)) k (ap count_of (a.shaped j) ∙ count_to (shape_of u j) k s) (none_from (λ i. count_of (shape_at t.shapes i)) (edges_at t.declarers e) h j ((a.declared e j).1 d))
 
   first_is : (e : ℕ) → first_count u e ≡ count_at t e
   first_is e = same_first (λ j. count_of (shape_of u j)) (λ j. count_of (shape_at t.shapes j)) (λ j. ap count_of (sym (a.shaped j))) (declarers u e) ∙ ap (first_some (λ j. count_of (shape_at t.shapes j))) (sym (a.listed e))

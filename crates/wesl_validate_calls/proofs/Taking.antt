@@ -18,10 +18,12 @@ use Rattle.wesl_validate_rules.specs.Calls.{ShapeOf, function_with, struct_with}
 use Rattle.wesl_validate_calls.specs.Ends.{takes_count, is_open, opens_at, is_builtin_at, is_open_at, AreOpen, takes_count_at, counts_at, is_count, IsEnder, AddsTaker, AddsTakers, AddsItself}
 use Rattle.wesl_validate_calls.specs.Judged.{count_of, count_at, ends_at}
 use Rattle.wesl_validate_calls.specs.Tables.{Tables, shape_at}
-use Rattle.wesl_validate_calls.proofs.Judging.{no, either_of}
+use Rattle.wesl_validate_calls.proofs.Judging.{either_of}
+use Rattle.wesl_scope_values.proofs.HandedOn.{no}
 use Rattle.wesl_validate_calls.proofs.Members.{contains_none, contains_here, contains_cases}
 use Rattle.wesl_validate_calls.proofs.Searching.{any_from, some_from}
 use mathlib.Core.Bool.{or-false}
+use Rattle.wesl_scope_graph.proofs.Growing.{length_view}
 
 -- one more edge
 pub edge : (g h : Graph) (from to : ℕ) → ((a : ℕ) → edges_at h a ≡ edges_at g a ++ (if from == a then to ∷ [] else [])) → (a b : ℕ) → Leads h a b ↔ (Leads g a b ⊎ ((from ≡ a) × (to ≡ b)))
@@ -237,10 +239,6 @@ module _ (t : Tables) (graph : List (Vec ℕ Global)) (is : t.declarers ≡ grap
       within : (e < n) ⊎ (n ≤ e) → counts_at t e ≡ true → e < n
       within (inl l) q = l
       within (inr l) q = no (sym (ap is_count (uncounted e l)) ∙ q)
-
-pub length_view : (graph : List (Vec ℕ Global)) → length (graph_view graph) ≡ length graph
-length_view [] = refl
-length_view (v ∷ graph) = ap suc (length_view graph)
 
 pub ending_all : (t : Tables) (graph : List (Vec ℕ Global)) → t.aliases ≡ graph_view graph → (n : ℕ) → n ≡ length graph → (g : Graph) → AreSelves (ends_at t) n g → (v e : ℕ) → Leads g v e ↔ ((v ≡ e) × IsEnder t e)
 ending_all t graph is n h g s v e = (λ l. let q = (s v e).0 l in (q.0, (subst (λ k. e < k) same q.1.0, q.1.1)), λ q. (s v e).1 (q.0, (subst (λ k. e < k) (sym same) q.1.0, q.1.1)))

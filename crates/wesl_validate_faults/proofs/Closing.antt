@@ -17,9 +17,7 @@ use Rattle.wesl_validate_calls.proofs.Members.{to_filtered, from_filtered}
 use Rattle.wesl_validate_faults.specs.Gathered.{have_one_group, are_one, AreClosers}
 use Rattle.wesl_validate_faults.specs.Listed.{IsFirst}
 use Rattle.wesl_validate_faults.proofs.Standing.{one_is}
-
-some_not_none : {P : Type 0} (o : Option ℕ) (v : ℕ) → o ≡ Some v → o ≡ None → P
-some_not_none o v e f = absurd (let g : Some v ≡ None = sym e ∙ f in cc)
+use Rattle.wesl_scope_values.proofs.HandedOn.{some_not_none}
 
 -- a list that is filtered, and one more item
 pub filter_next : (p : ℕ → Bool) (xs : List ℕ) (i x : ℕ) → i < length xs → x ≡ get_or xs i 0 → filter p (take (i + 1) xs) ≡ filter p (take i xs) ++ cond (p x) (x ∷ []) []

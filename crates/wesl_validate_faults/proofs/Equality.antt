@@ -11,9 +11,7 @@ use Rattle.wesl_validate_faults.specs.Gathered.{finding_view}
 use Rattle.wesl_validate_faults.specs.contracts.finding.FindingPartialEq.TheImpl as equality
 use Rattle.wesl_validate_faults.specs.declared.finding.Finding.{Finding}
 use Rattle.wesl_validate_faults.specs.declared.finding.Finding.TheVariants as made
-
-along : {P Q : Type 0} {r : Bool} → Decides r P → (P → Q) → (Q → P) → Decides r Q
-along d f g = (λ e. f (d.0 e), λ q. d.1 (g q))
+use Rattle.wesl_tree_base.proofs.Deciding.{along}
 
 holders_decide : (d c : Option Text) → Decides (same_holder d c) (d ≡ c)
 holders_decide None None = (λ e. refl, λ e. refl)

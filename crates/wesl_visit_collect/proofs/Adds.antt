@@ -1,5 +1,5 @@
 -- How what is added for the parts of a forest makes up what is added for it.
-use Rattle.std.proofs.Common.{◌≡◌, ℕ, ◌+◌, ◌<◌, ◌≤◌, Bool, true, false, if◌then◌else◌, List, [], ◌∷◌, ◌++◌, length, get_or, map, drop, refl, sym, ap, ◌∙◌, subst, add-one, drop-cons, append_assoc, append-nil}
+use Rattle.std.proofs.Common.{◌≡◌, ℕ, ◌+◌, ◌<◌, ◌≤◌, Bool, true, false, if◌then◌else◌, List, [], ◌∷◌, ◌++◌, length, get_or, map, drop, refl, sym, ap, ◌∙◌, subst, append_assoc, append-nil}
 use Rattle.std.proofs.lemmas.List.{drop_all}
 use Rattle.wesl_tree_syntax.specs.Tree.{Label, Forest, Tree, end, tree, before, forest_of}
 use Rattle.wesl_visit_collect.specs.Held.{all_of, hollow_label}
@@ -11,10 +11,7 @@ use Rattle.wesl_visit_collect.specs.Walk.{chosen, found_in, goes_on, itself, sig
 use Rattle.wesl_visit_collect.specs.declared.collected.Collected.{Collected}
 use Rattle.wesl_visit_collect.proofs.Labels.{nothing_in, plain_of, sight_plain}
 use Rattle.wesl_visit_collect.proofs.Seen.{IsSeen}
-
-abbrev pub joined : Forest → Forest → Forest
-joined end g = g
-joined (tree l children others) g = tree l children (joined others g)
+use Rattle.wesl_tree_syntax.proofs.Forests.{joined, walked_first}
 
 found_joined : (k : Sought) (deep : Bool) (f g : Forest) → found_in k deep (joined f g) ≡ found_in k deep f ++ found_in k deep g
 found_joined k deep end g = refl
@@ -54,9 +51,6 @@ found_entered k deep t old mid new s y m n = entered_by (picks k t.label) deep t
 
 found_passed : (k : Sought) (deep : Bool) (t : Tree) (old mid : List Tree) → IsSeen k t → goes_on k deep t.label ≡ false → mid ≡ old ++ itself k t → mid ≡ old ++ found_in k deep (before t end)
 found_passed k deep t old mid s y m = passed_by (picks k t.label) deep t (found_in k deep t.children) old mid y m ∙ ap (λ x. old ++ x) (sym (found_at k deep t s))
-
-walked_first : {X : Type 0} (look : X → Tree) (xs : List X) (i : ℕ) (x : X) → i < length xs → x ≡ get_or xs i x → forest_of (map look (drop i xs)) ≡ before (look x) (forest_of (map look (drop (i + 1) xs)))
-walked_first look xs i x h is = rw (drop-cons xs i x h, ← is, add-one i) refl
 
 module _ {T : Type 0} {k : Sought} {view : T → Tree} where
   -- where nothing is found

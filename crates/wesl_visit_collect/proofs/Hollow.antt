@@ -14,6 +14,7 @@ use Rattle.wesl_tree_syntax.specs.declared.import.ImportItem.{ImportItem}
 use Rattle.wesl_tree_syntax.specs.declared.span.Spanned.{Spanned}
 use Rattle.wesl_visit_collect.specs.Held.{all_of, flat_label, hollow_label, IsFlat, IsHollow}
 use Rattle.wesl_visit_collect.proofs.Plain.{inner_flat}
+use Rattle.wesl_tree_syntax.proofs.Seen.{content_seen, entry_seen}
 
 -- attributes hold no statement and no attributes
 abbrev flat : Forest → Bool
@@ -67,12 +68,6 @@ renamed_hollow i (Some r) = refl
 
 item_hollow : (i : ImportItem) → IsHollow (item_view i)
 item_hollow i = renamed_hollow i.ident i.rename
-
-abbrev content_seen : ImportContent-F ImportContent Import → Tree
-content_seen x = content_step (map-ImportContent ImportContent Import Tree Tree content_view entry_view x)
-
-abbrev entry_seen : Import-F ImportContent Import → Tree
-entry_seen x = entry_step (map-Import ImportContent Import Tree Tree content_view entry_view x)
 
 entries_each : (xs : List Hollow_entry) → hollow (forest_of (map (λ t. t) (map entry_view (map (λ (e : Hollow_entry). e.0) xs)))) ≡ true
 entries_each [] = refl

@@ -12,10 +12,11 @@ use Rattle.wesl_tree_syntax.specs.declared.expression.Expression.{Expression, ma
 use Rattle.wesl_tree_syntax.specs.declared.expression.FunctionCall.{FunctionCall, map-FunctionCall}
 use Rattle.wesl_tree_syntax.specs.declared.expression.TemplateArg.{TemplateArg, map-TemplateArg}
 use Rattle.wesl_tree_syntax.specs.declared.expression.TypeExpression.{TypeExpression, map-TypeExpression}
-use Rattle.wesl_tree_syntax.specs.declared.expression.Expression.TheOpen.{Expression-F, FunctionCall-F, TemplateArg-F, TypeExpression-F}
+use Rattle.wesl_tree_syntax.specs.declared.expression.Expression.TheOpen.{Expression-F, FunctionCall-F, TemplateArg-F}
 use Rattle.wesl_tree_syntax.specs.declared.expression.Expression.TheFolds.{ind-Expression, ind-TypeExpression, fold-roll-Expression, fold-roll-FunctionCall, fold-roll-TemplateArg, fold-roll-TypeExpression}
 use Rattle.wesl_visit_collect.specs.Held.{all_of, plain_label, flat_label, IsPlain}
 use Rattle.wesl_visit_collect.proofs.Labels.{all_more}
+use Rattle.wesl_tree_syntax.proofs.Seen.{expression_seen, call_seen, argument_seen, type_seen}
 
 abbrev plain : Forest → Bool
 plain = all_of plain_label
@@ -35,19 +36,6 @@ Plain_type = (t : TypeExpression) × IsPlain (type_view t)
 literal_plain : (l : LiteralValue) → IsPlain (literal_tree l)
 literal_plain (literals.Bool b) = refl
 literal_plain (literals.Text s) = refl
-
--- one level of each type, where what is in it is plain
-abbrev expression_seen : Expression-F Expression FunctionCall TemplateArg TypeExpression → Tree
-expression_seen x = expression_step (map-Expression Expression FunctionCall TemplateArg TypeExpression Tree Tree Tree Tree expression_view call_view argument_view type_view x)
-
-abbrev call_seen : FunctionCall-F Expression FunctionCall TemplateArg TypeExpression → Tree
-call_seen x = call_step (map-FunctionCall Expression FunctionCall TemplateArg TypeExpression Tree Tree Tree Tree expression_view call_view argument_view type_view x)
-
-abbrev argument_seen : TemplateArg-F Expression FunctionCall TemplateArg TypeExpression → Tree
-argument_seen x = argument_step (map-TemplateArg Expression FunctionCall TemplateArg TypeExpression Tree Tree Tree Tree expression_view call_view argument_view type_view x)
-
-abbrev type_seen : TypeExpression-F Expression FunctionCall TemplateArg TypeExpression → Tree
-type_seen x = type_step (map-TypeExpression Expression FunctionCall TemplateArg TypeExpression Tree Tree Tree Tree expression_view call_view argument_view type_view x)
 
 expression_each : (y : Expression-F Plain_expression Plain_call Plain_argument Plain_type)
     → IsPlain (expression_seen (map-Expression Plain_expression Plain_call Plain_argument Plain_type Expression FunctionCall TemplateArg TypeExpression (λ e. e.0) (λ e. e.0) (λ e. e.0) (λ e. e.0) y))

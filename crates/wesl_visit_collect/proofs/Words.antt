@@ -100,7 +100,7 @@ words_found attribute_lists deep inner rest i r =
     list_alone deep _ _ _ (no_attributes deep inner i) (ap (chosen attribute_lists deep) (sight_plain attribute_lists rest (plain_of rest r)) ∙ nothing_in attribute_lists deep rest r)
     ∙ ap (λ f. record { label = kind attributes; children = f } ∷ []) same
 
-path_hollow : (p : Option ModulePath) (f : Forest) → hollow f ≡ true → hollow (before (optional path_tree p) f) ≡ true
+pub path_hollow : (p : Option ModulePath) (f : Forest) → hollow f ≡ true → hollow (before (optional path_tree p) f) ≡ true
 path_hollow None f h = h
 path_hollow (Some p) f h = h
 

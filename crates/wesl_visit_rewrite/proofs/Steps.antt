@@ -16,7 +16,7 @@ use Rattle.wesl_visit_collect.specs.Held.{all_of, hollow_label}
 use Rattle.std.proofs.lemmas.Bool.{and_parts}
 use Rattle.wesl_visit_collect.proofs.Joined.{agrees}
 use Rattle.wesl_visit_collect.proofs.Labels.{hollow_picks}
-use Rattle.wesl_visit_collect.proofs.Adds.{joined}
+use Rattle.wesl_tree_syntax.proofs.Forests.{joined}
 
 not_false : (b : Bool) → (true && not b) ≡ false → b ≡ true
 not_false true h = refl

@@ -1,5 +1,5 @@
 -- What becomes of whole modules: numbers stay in the table.
-use Rattle.std.proofs.Common.{◌≡◌, ℕ, Bool, true, false, ◌&&◌, refl, sym, ap, ◌∙◌, subst, length, List, Option, None, Some, IsSome, MatchOption}
+use Rattle.std.proofs.Common.{◌≡◌, ℕ, Bool, true, false, ◌&&◌, refl, ap, ◌∙◌, length, List}
 use Rattle.wesl_tree_syntax.specs.Tree.{Forest, Tree, end, tree, forest_below, label_below, tree_below, kind, imports, directive_list, declarations, unit}
 use Rattle.wesl_tree_names.specs.Path.{Text}
 use Rattle.wesl_tree_syntax.specs.Unit.{unit_below}
@@ -73,10 +73,3 @@ unit_kept k a b c names i i' d d' e e' keeps p q r h =
     let x = and_parts (forest_below n i && forest_below n d) (forest_below n e) h in
     let y = and_parts (forest_below n i) (forest_below n d) x.0 in
     and_from (forest_below n i' && forest_below n d') (forest_below n e') (and_from (forest_below n i') (forest_below n d') (went_below k n keeps true a i i' p y.0) (went_below k n keeps a b d d' q y.1)) (went_below k n keeps b c e e' r x.1)
-
-pub some_if : {X : Type 0} (r : Option X) (b : Bool) (Q : X → Type 0) → MatchOption r (b ≡ false) Q → b ≡ true → IsSome r
-some_if None b Q h e = let f : true ≡ false = sym e ∙ h in cc
-some_if (Some x) b Q h e = refl
-
-pub some_of : {X : Type 0} (r : Option X) (x : X) (P : Type 0) (Q : X → Type 0) → r ≡ Some x → MatchOption r P Q → Q x
-some_of r x P Q e h = subst (λ o. MatchOption o P Q) e h

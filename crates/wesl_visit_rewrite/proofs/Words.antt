@@ -1,6 +1,5 @@
 -- What becomes of formulas, imports and directives.
-use Rattle.std.proofs.Common.{◌≡◌, Bool, true, false, List, [], ◌∷◌, map, refl, sym, ◌∙◌, subst, Option, None, Some, Vec, Global, String}
-use Rattle.wesl_tree_names.specs.declared.path.ModulePath.{ModulePath}
+use Rattle.std.proofs.Common.{◌≡◌, Bool, true, false, List, [], ◌∷◌, map, refl, sym, ◌∙◌, subst, Option, Vec, Global, String}
 use Rattle.wesl_tree_syntax.specs.Tree.{Label, Forest, Tree, end, tree, before, forest_of, kind, attributes, attribute_node, if_attribute, elif_attribute, import_statement, diagnostic_directive, enable_directive, requires_directive}
 use Rattle.wesl_tree_syntax.specs.Nodes.{is_formula}
 use Rattle.wesl_tree_syntax.specs.View.{attribute_view, attributes_tree, content_view, expression_tree, directive_view, import_view, operand_tree, optional, path_tree, placed, text_tree, names_tree}
@@ -21,7 +20,7 @@ use Rattle.wesl_visit_collect.specs.Held.{all_of, flat_label, hollow_label, Attr
 use Rattle.wesl_visit_rewrite.proofs.Steps.{hollow_same, inner_by, joined_by, replaced_none, same, same_by, whole_by, within_by}
 use Rattle.wesl_visit_collect.proofs.Joined.{agrees}
 use Rattle.wesl_visit_collect.proofs.Labels.{flat_attributes, flat_statements}
-use Rattle.wesl_visit_collect.proofs.Words.{directive_attributes}
+use Rattle.wesl_visit_collect.proofs.Words.{directive_attributes, path_hollow}
 
 abbrev flat : Forest → Bool
 flat = all_of flat_label
@@ -35,10 +34,6 @@ operand_flat law e = law (attr.If e)
 
 abbrev hollow : Forest → Bool
 hollow = all_of hollow_label
-
-path_hollow : (p : Option ModulePath) (f : Forest) → hollow f ≡ true → hollow (before (optional path_tree p) f) ≡ true
-path_hollow None f h = h
-path_hollow (Some p) f h = h
 
 -- where no statement and no attributes stand, a visit of these leaves all as it was
 statements_same : (turns : Tree → Tree → Type 0) (d : Bool) (f : Forest) → flat f ≡ true → Replaced (rule statements turns d) f f

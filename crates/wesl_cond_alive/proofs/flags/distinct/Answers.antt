@@ -1,7 +1,8 @@
 use Rattle.std.proofs.Common.{◌≡◌, ◌∙◌, ap, sym, false}
 use Rattle.wesl_tree_base.specs.Borrowed.{texts}
 use Rattle.wesl_cond_alive.specs.Choices.{with_text}
-use Rattle.wesl_cond_alive.proofs.Once.{if_ok, names_more, or_left, or_right}
+use Rattle.wesl_cond_alive.proofs.Once.{if_ok, names_more}
+use Rattle.wesl_tree_base.proofs.Truth.{or_right, or_left}
 use Rattle.wesl_cond_alive.proofs.flags.distinct.Goals as goal
 
 pub loop-ident-preserved : goal.loop-ident-preserved

@@ -4,7 +4,7 @@ use Rattle.wesl_json_form.specs.Schema.{a_clause, a_statement, an_elif}
 use Rattle.wesl_json_form.specs.View.{borrowed_view, items_view}
 use Rattle.wesl_tree_syntax.specs.Tree.{clauses, list, statement_node, statements}
 use Rattle.wesl_tree_syntax.specs.View.{clause_view, else_if_view, statement_tree, statement_view}
-use Rattle.wesl_json_read.proofs.Depths.{array-depth, get-depth, item-depth}
+use Rattle.wesl_json_form.proofs.Depths.{array-depth, get-depth, item-depth}
 use Rattle.wesl_json_read.proofs.Noting.{all_items, inner_next, is_clear, many_next, may_lacks, may_next, may_part, needed_lacks, needed_part, needs_next, no_items, no_list, no_more, of_bare, of_node, of_word, one_item, seen, seen_worded, stopped}
 use Rattle.wesl_json_read.proofs.Worded.{node-place, node-reads, node-span}
 use Rattle.wesl_json_read_statements.specs.Forms.{statement_head, statement_row, statement_text}

@@ -4,7 +4,7 @@ use Rattle.serde_json.specs.Data.{array, depth, items_depth}
 use Rattle.wesl_json_form.specs.View.{borrowed_view, items_view}
 use Rattle.std.proofs.Common.{Some, arith, codes, refl, rules, sym, true, ◌≡◌, ◌<◌, ◌≤◌, ◌∙◌}
 use Rattle.wesl_json_form.specs.Schema.{an_entry}
-use Rattle.wesl_json_read.proofs.Depths.{array-depth, get-depth, item-depth}
+use Rattle.wesl_json_form.proofs.Depths.{array-depth, get-depth, item-depth}
 use Rattle.wesl_tree_syntax.specs.Tree.{list}
 use Rattle.wesl_tree_syntax.specs.View.{entry_view}
 use Rattle.wesl_json_read_unit.proofs.Imports.{content-collection, made-entry}

@@ -7,7 +7,7 @@ use Rattle.wesl_link_assembly.specs.Linked.{nodes_of}
 use Rattle.wesl_link_assembly.proofs.Renumbered.{nodes_leafy}
 use Rattle.wesl_link_assembly.proofs.Whole.{made, all_named}
 use Rattle.wesl_link_assembly.proofs.unit.renumbered.Goals as goal
-use Rattle.wesl_scope_numbers.proofs.Units.{some_if, some_of}
+use Rattle.wesl_tree_base.proofs.Options.{some_of, some_if}
 
 pub unwrap-requires : goal.unwrap-requires
 unwrap-requires c =

@@ -8,7 +8,7 @@ use Rattle.wesl_scope.specs.Strip.{marked}
 use Rattle.wesl_scope_strip.proofs.Keeping.{trees_count}
 use Rattle.wesl_scope.proofs.Stripping.{stripped_below}
 use Rattle.wesl_scope.proofs.strip.strip_except.Goals as goal
-use Rattle.wesl_scope_numbers.proofs.Units.{some_if, some_of}
+use Rattle.wesl_tree_base.proofs.Options.{some_of, some_if}
 
 pub keep_marked-requires : goal.keep_marked-requires
 keep_marked-requires c =

@@ -2,7 +2,8 @@ use Rattle.std.proofs.Common.{◌≡◌, ◌∙◌, ap}
 use Rattle.wesl_tree_syntax.specs.Unit.{spelled, numbers}
 use Rattle.wesl_tree.specs.Parts.{parts_view}
 use Rattle.wesl_tree.specs.Translation.{unit_view}
-use Rattle.wesl_scope_numbers.proofs.Units.{leafy, IsRenumbered, made, same_nodes, same_numbers, same_spelling, still_below, some_if, some_of}
+use Rattle.wesl_scope_numbers.proofs.Units.{leafy, IsRenumbered, made, same_nodes, same_numbers, same_spelling, still_below}
+use Rattle.wesl_tree_base.proofs.Options.{some_of, some_if}
 use Rattle.wesl_scope_numbers.proofs.unit.renumber.Goals as goal
 
 pub unwrap-requires : goal.unwrap-requires

@@ -1,7 +1,7 @@
 use Rattle.std.proofs.Common.{◌≡◌, ◌+◌, ap, subst, sym, ◌∙◌}
 use Rattle.wesl_scope_graph.specs.Graphs.{graph_view}
 use Rattle.wesl_scope_values.specs.Walks.{cleared, Walked, AreHandedOn}
-use Rattle.wesl_scope_values.proofs.Edges.{items_at}
+use Rattle.wesl_scope_graph.proofs.Growing.{items_at}
 use Rattle.wesl_scope_values.proofs.HandedOn.{handed_next}
 use Rattle.wesl_scope_values.proofs.handing.hand_on.Goals as goal
 

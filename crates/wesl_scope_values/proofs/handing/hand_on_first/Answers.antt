@@ -1,7 +1,7 @@
 use Rattle.std.proofs.Common.{subst}
 use Rattle.wesl_scope_graph.specs.Graphs.{graph_view}
 use Rattle.wesl_scope_values.specs.Walks.{Walked}
-use Rattle.wesl_scope_values.proofs.Edges.{items_at}
+use Rattle.wesl_scope_graph.proofs.Growing.{items_at}
 use Rattle.wesl_scope_values.proofs.HandedOn.{first_after}
 use Rattle.wesl_scope_values.proofs.handing.hand_on_first.Goals as goal
 

@@ -1,7 +1,8 @@
 use Rattle.std.proofs.Common.{◌<◌, ◌≤◌, length, ap, subst, arith}
 use Rattle.wesl_scope_graph.specs.Graphs.{graph_view}
 use Rattle.wesl_scope_values.specs.Values.{AddsFromEach}
-use Rattle.wesl_scope_values.proofs.Edges.{turned_none, turned_next, turned_all, closed_none, items_at}
+use Rattle.wesl_scope_values.proofs.Edges.{turned_none, turned_next, turned_all, closed_none}
+use Rattle.wesl_scope_graph.proofs.Growing.{items_at}
 use Rattle.wesl_scope_values.proofs.turning.turned.Goals as goal
 
 pub loop-node-init : goal.loop-node-init

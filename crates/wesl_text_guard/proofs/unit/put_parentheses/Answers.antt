@@ -3,7 +3,8 @@ use Rattle.wesl_tree_syntax.specs.Unit.{numbers, trees_of, unit_below}
 use Rattle.wesl_tree.specs.Parts.{parts_view}
 use Rattle.wesl_tree.specs.Translation.{unit_view}
 use Rattle.wesl_text_guard.specs.Units.{unit_with_parentheses}
-use Rattle.wesl_text_guard.proofs.Whole.{WholeGuarded, numbers_stay, on_ok, some_if, some_of, still_below, whole_guarded}
+use Rattle.wesl_text_guard.proofs.Whole.{WholeGuarded, numbers_stay, on_ok, still_below, whole_guarded}
+use Rattle.wesl_tree_base.proofs.Options.{some_of, some_if}
 use Rattle.wesl_text_guard.proofs.unit.put_parentheses.Goals as goal
 
 pub unwrap-requires : goal.unwrap-requires

@@ -3,7 +3,7 @@ use Rattle.wesl_validate_calls.specs.Ends.{IsLeastEnd}
 use Rattle.wesl_validate_calls.specs.Judged.{ends_at}
 use Rattle.wesl_validate_calls.specs.Views.{tables_view}
 use Rattle.wesl_validate_calls.proofs.Ending.{end_here, no_end}
-use Rattle.wesl_validate_calls.proofs.Taking.{length_view}
+use Rattle.wesl_scope_graph.proofs.Growing.{length_view}
 use Rattle.wesl_validate_calls.proofs.judge.end_of.Goals as goal
 
 pub returns-then-number-count : goal.returns-then-number-count

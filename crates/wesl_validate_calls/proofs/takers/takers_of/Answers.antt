@@ -1,5 +1,5 @@
 use Rattle.std.proofs.Common.{◌<◌, ◌≤◌, length, ap, refl, subst, map, arith}
-use Rattle.wesl_scope_values.proofs.Edges.{items_at}
+use Rattle.wesl_scope_graph.proofs.Growing.{items_at}
 use Rattle.wesl_validate_rules.specs.Graphs.{graph_view}
 use Rattle.wesl_validate_calls.specs.Ends.{AddsTakers}
 use Rattle.wesl_validate_calls.specs.Views.{shape_view, tables_view}

@@ -11,13 +11,15 @@ use Rattle.wesl_json_read.specs.Forms.{ReadsTypeOrIdentifier, expression_of}
 use Rattle.wesl_json_read.specs.NotedNodes.{NotesType}
 use Rattle.wesl_json_read.specs.declared.words.ExpressionWord.TheVariants as words
 use Rattle.wesl_json_read.proofs.Boxes.{as_argument}
-use Rattle.wesl_json_read.proofs.Depths.{array-depth, get-depth, item-depth}
+use Rattle.wesl_json_form.proofs.Depths.{array-depth, get-depth, item-depth}
 use Rattle.wesl_json_read.proofs.Expressions.{bare-type, expression-place, expression-placed, expression-span, type-place, type-reads}
-use Rattle.wesl_json_read.proofs.Noting.{all_items, cleared, given_next, is_clear, may_many, may_next, many_next, needed_part, needs_next, inner_next, no_items, no_list, no_more, of_headed, of_node, of_type, of_word, one_item, seen_worded, stopped, weaker}
+use Rattle.wesl_json_read.proofs.Noting.{all_items, given_next, is_clear, may_many, may_next, many_next, needed_part, needs_next, inner_next, no_items, no_list, no_more, of_headed, of_node, of_type, of_word, one_item, seen_worded, stopped, weaker}
+use Rattle.wesl_tree_base.proofs.Options.{cleared}
 use Rattle.wesl_json_read.proofs.Operators.{operator_head}
 use Rattle.wesl_json_read.proofs.Rows.{plain-binary, plain-unary}
 use Rattle.wesl_json_read.proofs.Steps.{same-reads}
-use Rattle.wesl_json_read.proofs.Trees.{made_type, view-call, view-component, view-literal, view-truth}
+use Rattle.wesl_json_read.proofs.Trees.{view-component, view-truth}
+use Rattle.wesl_tree_syntax.proofs.Built.{view-call, view-literal, made_type}
 use Rattle.wesl_json_read.proofs.reader.Reader.+expressions.Goals as goal
 use Rattle.wesl_json_read.proofs.reader.Reader.+expressions.Goals.{argument_list-else-not-is_stopped, argument_list-then-not-is_stopped, expressions-else-not-is_stopped, expressions-then-not-is_stopped}
 use Rattle.wesl_tree_syntax.proofs.Views.{view_binary, view_indexing, view_name, view_parenthesized, view_unary}

@@ -4,7 +4,7 @@ use Rattle.wesl_json_read.specs.NotedNodes.{NotesPlain}
 use Rattle.wesl_json_read.proofs.Members.{plain-type}
 use Rattle.wesl_json_read.proofs.Noting.{weaker}
 use Rattle.wesl_json_read.proofs.Texts.{plain_place}
-use Rattle.wesl_json_read.proofs.Trees.{made_type}
+use Rattle.wesl_tree_syntax.proofs.Built.{made_type}
 use Rattle.wesl_json_read.proofs.reader.Reader.plain_type.Goals as goal
 
 pub returns : goal.returns

@@ -21,7 +21,7 @@ use Rattle.wesl_text_read.proofs.Leading.{levelled}
 use Rattle.wesl_text_read.proofs.Lists.{Lists, list_begins, list_ends, list_more}
 use Rattle.wesl_text_read.proofs.Expressions.{argument_more, bare_enclosed, enclosed_read, indexing_read, list_closed, operand_bare, operand_prefixed, Untested, operation_read, prefixed_read, template_opened, tested_read, type_parts, viewed, whole_read, worded_call, worded_type}
 use Rattle.wesl_text_read.proofs.Rows.{row_commas, row_ends, row_sign}
-use Rattle.wesl_text_read.proofs.Trees.{made_type, view-call}
+use Rattle.wesl_tree_syntax.proofs.Built.{view-call, made_type}
 use Rattle.std.proofs.lemmas.List.{length-map}
 use Rattle.wesl_text_read.proofs.reader.Reader.+expressions.Goals as goal
 use Rattle.wesl_text_read.proofs.reader.Reader.+expressions.Goals.{expressions-then-expressions-test+else-room-gt0, expressions-else-expressions-test, list_arguments-then-arguments-test+else-room-gt0, list_arguments-else-arguments-test}

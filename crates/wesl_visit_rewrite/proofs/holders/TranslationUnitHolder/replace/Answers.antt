@@ -9,7 +9,8 @@ use Rattle.wesl_visit_rewrite.specs.Holders.{unit_tree}
 use Rattle.wesl_visit_rewrite.specs.Replaced.{rule}
 use Rattle.wesl_visit_rewrite.specs.Went.{WentBelow}
 use Rattle.wesl_visit_rewrite.proofs.Steps.{forest_by, went_items}
-use Rattle.wesl_visit_rewrite.proofs.Units.{Keeps, some_if, some_of, unit_kept, unit_went}
+use Rattle.wesl_visit_rewrite.proofs.Units.{Keeps, unit_kept, unit_went}
+use Rattle.wesl_tree_base.proofs.Options.{some_of, some_if}
 use Rattle.wesl_visit_rewrite.proofs.holders.TranslationUnitHolder.replace.Goals as goal
 
 pub unwrap-requires : goal.unwrap-requires
