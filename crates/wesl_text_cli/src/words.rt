@@ -22,6 +22,7 @@ const STATUS: &str =
 /// The command line of the program.
 pub fn command<'a>(alloc: Global) -> Result<Command<'a>, AllocError> {
     let command = Command::new(alloc, "wesl-text")
+        .version("0.1.0")
         .about(ABOUT)
         .after_help(STATUS)
         .arg(
